@@ -21,7 +21,7 @@ use Rattle.occ_usage_conflicts.specs.Kinds.{is_read, is_write}
 use Rattle.occ_usage_conflicts.specs.ParallelRule.{name_of, root_name}
 use Rattle.occ_usage_lines.specs.Entering.{entry_bounds}
 use Rattle.occ_usage_lines.specs.Forms.{each_uses, form_uses}
-use Rattle.occ_usage_lines.specs.Naming.{elements_name, form_names, guard_names, input_names, output_names, outputs_name, replicator_names, target_names, targets_name}
+use Rattle.occ_usage_lines.specs.Naming.{elements_depend, form_depends, guard_depends, input_depends, output_depends, outputs_depend, replicator_depends, target_depends, targets_depend}
 use Rattle.occ_usage_lines.specs.TypedForm.{TypedForm}
 use Rattle.occ_usage_lines.specs.TypedForm.TheVariants as form
 use Rattle.occ_usage_lines.specs.TypedGuard.{TypedGuard}
@@ -34,14 +34,15 @@ use Rattle.occ_usage_parts.specs.declared.part.Part.{Part}
 use Rattle.occ_usage_parts.specs.declared.place.SelectedPart.{SelectedPart}
 use Rattle.occ_usage_values.specs.Bounds.{Env, body_of}
 use Rattle.occ_usage_values.specs.Differing.{DifferAt, IsSame}
-use Rattle.occ_usage_values.specs.Naming.{element_names, expr_names, exprs_name}
+use Rattle.occ_usage_values.specs.Naming.{element_depends, element_names, expr_depends, expr_names, exprs_depend}
 use Rattle.occ_usage_values.specs.Views.{actual_views}
 use Rattle.occ_usage_values.specs.declared.bound.Bound.{Bound}
 use Rattle.occ_usage_values.specs.declared.bound.Bound.TheVariants as b
 use Rattle.occ_usage_values.specs.declared.call.Call.{Call}
 use Rattle.occ_usage_values.specs.declared.uses.Use.{Use}
 use Rattle.occ_usage_values.proofs.Differing.{call_calls_same, found_same, left_false, right_false}
-use Rattle.occ_usage_values.proofs.Sameness.{all_actuals_same, element_same, expr_same}
+use Rattle.occ_usage_values.proofs.Depending.{all_actuals_stay, element_stays, expr_stays}
+use Rattle.occ_usage_values.proofs.Sameness.{element_same, expr_same}
 use Rattle.occ_alias.specs.AbbreviationRule.{actual_faults, actuals_faults, bound_faults, call_faults, calls_faults, element_fault, element_faults, evaluated_faults, free_fault, free_faults, graded, line_faults, pair_faults, place_faults, place_pair, place_pairs, results_faults, scope_faults, written_by, written_fault, written_faults}
 use Rattle.occ_alias.specs.LineCalls.{each_calls, elements_calls, form_calls, guard_calls, input_calls, output_calls, outputs_calls, replicator_calls, target_calls, targets_calls}
 
@@ -50,58 +51,58 @@ use Rattle.occ_alias.specs.LineCalls.{each_calls, elements_calls, form_calls, gu
 two_calls : (a c x y : List Call) → a ≡ c → x ≡ y → a ++ x ≡ c ++ y
 two_calls a c x y p q = ap₂ (λ (us vs : List Call). us ++ vs) p q
 
-each_calls_same : (d : ℕ) (xs : List TypedExpr) → exprs_name d xs ≡ false → (line : Location) → IsSame d (λ env. each_calls xs env line)
+each_calls_same : (d : ℕ) (xs : List TypedExpr) → exprs_depend d xs ≡ false → (line : Location) → IsSame d (λ env. each_calls xs env line)
 each_calls_same d [] h line e f m = refl
 each_calls_same d (x ∷ xs) h line e f m =
-    two_calls _ _ _ _ ((expr_same d x (left_false (expr_names d x) (exprs_name d xs) h)).calls line e f m) (each_calls_same d xs (right_false (expr_names d x) (exprs_name d xs) h) line e f m)
+    two_calls _ _ _ _ ((expr_stays d x (left_false (expr_depends d x) (exprs_depend d xs) h)).calls line e f m) (each_calls_same d xs (right_false (expr_depends d x) (exprs_depend d xs) h) line e f m)
 
-elements_calls_same : (d : ℕ) (xs : List TypedElement) → elements_name d xs ≡ false → (line : Location) → IsSame d (λ env. elements_calls xs env line)
+elements_calls_same : (d : ℕ) (xs : List TypedElement) → elements_depend d xs ≡ false → (line : Location) → IsSame d (λ env. elements_calls xs env line)
 elements_calls_same d [] h line e f m = refl
 elements_calls_same d (x ∷ xs) h line e f m =
-    two_calls _ _ _ _ ((element_same d x (left_false (element_names d x) (elements_name d xs) h)).calls line e f m) (elements_calls_same d xs (right_false (element_names d x) (elements_name d xs) h) line e f m)
+    two_calls _ _ _ _ ((element_stays d x (left_false (element_depends d x) (elements_depend d xs) h)).calls line e f m) (elements_calls_same d xs (right_false (element_depends d x) (elements_depend d xs) h) line e f m)
 
-target_calls_same : (d : ℕ) (t : TypedTarget) → target_names d t ≡ false → (line : Location) → IsSame d (λ env. target_calls t env line)
-target_calls_same d (target.Single el) h line e f m = (element_same d el h).calls line e f m
+target_calls_same : (d : ℕ) (t : TypedTarget) → target_depends d t ≡ false → (line : Location) → IsSame d (λ env. target_calls t env line)
+target_calls_same d (target.Single el) h line e f m = (element_stays d el h).calls line e f m
 target_calls_same d (target.Counted count el) h line e f m =
-    two_calls _ _ _ _ ((element_same d count (left_false (element_names d count) (element_names d el) h)).calls line e f m) ((element_same d el (right_false (element_names d count) (element_names d el) h)).calls line e f m)
+    two_calls _ _ _ _ ((element_stays d count (left_false (element_depends d count) (element_depends d el) h)).calls line e f m) ((element_stays d el (right_false (element_depends d count) (element_depends d el) h)).calls line e f m)
 
-targets_calls_same : (d : ℕ) (xs : List TypedTarget) → targets_name d xs ≡ false → (line : Location) → IsSame d (λ env. targets_calls xs env line)
+targets_calls_same : (d : ℕ) (xs : List TypedTarget) → targets_depend d xs ≡ false → (line : Location) → IsSame d (λ env. targets_calls xs env line)
 targets_calls_same d [] h line e f m = refl
 targets_calls_same d (x ∷ xs) h line e f m =
-    two_calls _ _ _ _ (target_calls_same d x (left_false (target_names d x) (targets_name d xs) h) line e f m) (targets_calls_same d xs (right_false (target_names d x) (targets_name d xs) h) line e f m)
+    two_calls _ _ _ _ (target_calls_same d x (left_false (target_depends d x) (targets_depend d xs) h) line e f m) (targets_calls_same d xs (right_false (target_depends d x) (targets_depend d xs) h) line e f m)
 
-output_calls_same : (d : ℕ) (o : TypedOutput) → output_names d o ≡ false → (line : Location) → IsSame d (λ env. output_calls o env line)
-output_calls_same d (output.Value x) h line e f m = (expr_same d x h).calls line e f m
+output_calls_same : (d : ℕ) (o : TypedOutput) → output_depends d o ≡ false → (line : Location) → IsSame d (λ env. output_calls o env line)
+output_calls_same d (output.Value x) h line e f m = (expr_stays d x h).calls line e f m
 output_calls_same d (output.Counted x y) h line e f m =
-    two_calls _ _ _ _ ((expr_same d x (left_false (expr_names d x) (expr_names d y) h)).calls line e f m) ((expr_same d y (right_false (expr_names d x) (expr_names d y) h)).calls line e f m)
+    two_calls _ _ _ _ ((expr_stays d x (left_false (expr_depends d x) (expr_depends d y) h)).calls line e f m) ((expr_stays d y (right_false (expr_depends d x) (expr_depends d y) h)).calls line e f m)
 output_calls_same d (output.Tag place name) h line e f m = refl
 
-outputs_calls_same : (d : ℕ) (xs : List TypedOutput) → outputs_name d xs ≡ false → (line : Location) → IsSame d (λ env. outputs_calls xs env line)
+outputs_calls_same : (d : ℕ) (xs : List TypedOutput) → outputs_depend d xs ≡ false → (line : Location) → IsSame d (λ env. outputs_calls xs env line)
 outputs_calls_same d [] h line e f m = refl
 outputs_calls_same d (x ∷ xs) h line e f m =
-    two_calls _ _ _ _ (output_calls_same d x (left_false (output_names d x) (outputs_name d xs) h) line e f m) (outputs_calls_same d xs (right_false (output_names d x) (outputs_name d xs) h) line e f m)
+    two_calls _ _ _ _ (output_calls_same d x (left_false (output_depends d x) (outputs_depend d xs) h) line e f m) (outputs_calls_same d xs (right_false (output_depends d x) (outputs_depend d xs) h) line e f m)
 
-input_calls_same : (d : ℕ) (i : TypedInput) → input_names d i ≡ false → (line : Location) → IsSame d (λ env. input_calls i env line)
+input_calls_same : (d : ℕ) (i : TypedInput) → input_depends d i ≡ false → (line : Location) → IsSame d (λ env. input_calls i env line)
 input_calls_same d (input.Plain el ts) h line e f m =
-    two_calls _ _ _ _ ((element_same d el (left_false (element_names d el) (targets_name d ts) h)).calls line e f m) (targets_calls_same d ts (right_false (element_names d el) (targets_name d ts) h) line e f m)
+    two_calls _ _ _ _ ((element_stays d el (left_false (element_depends d el) (targets_depend d ts) h)).calls line e f m) (targets_calls_same d ts (right_false (element_depends d el) (targets_depend d ts) h) line e f m)
 input_calls_same d (input.Time el t) h line e f m =
-    two_calls _ _ _ _ ((element_same d el (left_false (element_names d el) (element_names d t) h)).calls line e f m) ((element_same d t (right_false (element_names d el) (element_names d t) h)).calls line e f m)
+    two_calls _ _ _ _ ((element_stays d el (left_false (element_depends d el) (element_depends d t) h)).calls line e f m) ((element_stays d t (right_false (element_depends d el) (element_depends d t) h)).calls line e f m)
 input_calls_same d (input.After el x) h line e f m =
-    two_calls _ _ _ _ ((element_same d el (left_false (element_names d el) (expr_names d x) h)).calls line e f m) ((expr_same d x (right_false (element_names d el) (expr_names d x) h)).calls line e f m)
+    two_calls _ _ _ _ ((element_stays d el (left_false (element_depends d el) (expr_depends d x) h)).calls line e f m) ((expr_stays d x (right_false (element_depends d el) (expr_depends d x) h)).calls line e f m)
 input_calls_same d (input.Tagged el place name ts) h line e f m =
-    two_calls _ _ _ _ ((element_same d el (left_false (element_names d el) (targets_name d ts) h)).calls line e f m) (targets_calls_same d ts (right_false (element_names d el) (targets_name d ts) h) line e f m)
+    two_calls _ _ _ _ ((element_stays d el (left_false (element_depends d el) (targets_depend d ts) h)).calls line e f m) (targets_calls_same d ts (right_false (element_depends d el) (targets_depend d ts) h) line e f m)
 
-guard_calls_same : (d : ℕ) (g : TypedGuard) → guard_names d g ≡ false → (line : Location) → IsSame d (λ env. guard_calls g env line)
+guard_calls_same : (d : ℕ) (g : TypedGuard) → guard_depends d g ≡ false → (line : Location) → IsSame d (λ env. guard_calls g env line)
 guard_calls_same d guard.Skip h line e f m = refl
 guard_calls_same d (guard.Input i) h line e f m = input_calls_same d i h line e f m
-guard_calls_same d (guard.CaseInput el) h line e f m = (element_same d el h).calls line e f m
+guard_calls_same d (guard.CaseInput el) h line e f m = (element_stays d el h).calls line e f m
 
-replicator_calls_same : (d : ℕ) (r : Option TypedReplicator) → replicator_names d r ≡ false → (line : Location) → IsSame d (λ env. replicator_calls r env line)
+replicator_calls_same : (d : ℕ) (r : Option TypedReplicator) → replicator_depends d r ≡ false → (line : Location) → IsSame d (λ env. replicator_calls r env line)
 replicator_calls_same d None h line e f m = refl
 replicator_calls_same d (Some r) h line e f m =
-    two_calls _ _ _ _ ((expr_same d r.base (left_false (expr_names d r.base) (expr_names d r.count) h)).calls line e f m) ((expr_same d r.count (right_false (expr_names d r.base) (expr_names d r.count) h)).calls line e f m)
+    two_calls _ _ _ _ ((expr_stays d r.base (left_false (expr_depends d r.base) (expr_depends d r.count) h)).calls line e f m) ((expr_stays d r.count (right_false (expr_depends d r.base) (expr_depends d r.count) h)).calls line e f m)
 
-form_calls_same : (d : ℕ) (x : TypedForm) → form_names d x ≡ false → (line : Location) → IsSame d (λ env. form_calls x env line)
+form_calls_same : (d : ℕ) (x : TypedForm) → form_depends d x ≡ false → (line : Location) → IsSame d (λ env. form_calls x env line)
 form_calls_same d form.Declaration h line e f m = refl
 form_calls_same d (form.Abbreviation el) h line e f m = (element_same d el h).calls line e f m
 form_calls_same d (form.Retyped el) h line e f m = (element_same d el h).calls line e f m
@@ -120,20 +121,20 @@ form_calls_same d form.Close h line e f m = refl
 form_calls_same d form.Skip h line e f m = refl
 form_calls_same d form.Stop h line e f m = refl
 form_calls_same d (form.Assignment els es) h line e f m =
-    two_calls _ _ _ _ (each_calls_same d es (left_false (exprs_name d es) (elements_name d els) h) line e f m) (elements_calls_same d els (right_false (exprs_name d es) (elements_name d els) h) line e f m)
+    two_calls _ _ _ _ (each_calls_same d es (left_false (exprs_depend d es) (elements_depend d els) h) line e f m) (elements_calls_same d els (right_false (exprs_depend d es) (elements_depend d els) h) line e f m)
 form_calls_same d (form.Output el os) h line e f m =
-    two_calls _ _ _ _ ((element_same d el (left_false (element_names d el) (outputs_name d os) h)).calls line e f m) (outputs_calls_same d os (right_false (element_names d el) (outputs_name d os) h) line e f m)
+    two_calls _ _ _ _ ((element_stays d el (left_false (element_depends d el) (outputs_depend d os) h)).calls line e f m) (outputs_calls_same d os (right_false (element_depends d el) (outputs_depend d os) h) line e f m)
 form_calls_same d (form.Input i) h line e f m = input_calls_same d i h line e f m
-form_calls_same d (form.Instance callee xs) h line e f m = call_calls_same d callee.spec (actual_views xs) (all_actuals_same d xs h) line e f m
+form_calls_same d (form.Instance callee xs) h line e f m = call_calls_same d callee.spec (actual_views xs) (all_actuals_stay d xs h) line e f m
 form_calls_same d (form.Block k r) h line e f m = replicator_calls_same d r h line e f m
-form_calls_same d (form.While x) h line e f m = (expr_same d x h).calls line e f m
-form_calls_same d (form.Selection x) h line e f m = (expr_same d x h).calls line e f m
-form_calls_same d (form.CaseInput el) h line e f m = (element_same d el h).calls line e f m
-form_calls_same d (form.Condition x) h line e f m = (expr_same d x h).calls line e f m
+form_calls_same d (form.While x) h line e f m = (expr_stays d x h).calls line e f m
+form_calls_same d (form.Selection x) h line e f m = (expr_stays d x h).calls line e f m
+form_calls_same d (form.CaseInput el) h line e f m = (element_stays d el h).calls line e f m
+form_calls_same d (form.Condition x) h line e f m = (expr_stays d x h).calls line e f m
 form_calls_same d (form.Options es) h line e f m = refl
 form_calls_same d form.Otherwise h line e f m = refl
 form_calls_same d (form.Guard x g) h line e f m =
-    two_calls _ _ _ _ ((expr_same d x (left_false (expr_names d x) (guard_names d g) h)).calls line e f m) (guard_calls_same d g (right_false (expr_names d x) (guard_names d g) h) line e f m)
+    two_calls _ _ _ _ ((expr_stays d x (left_false (expr_depends d x) (guard_depends d g) h)).calls line e f m) (guard_calls_same d g (right_false (expr_depends d x) (guard_depends d g) h) line e f m)
 form_calls_same d (form.Variant place name ts) h line e f m = targets_calls_same d ts h line e f m
 form_calls_same d form.ValueOf h line e f m = refl
 form_calls_same d (form.Results es) h line e f m = each_calls_same d es h line e f m
@@ -249,12 +250,12 @@ results_same d formals results h line e f m =
     (each_calls results (e ++ entry_bounds formals) line) (each_calls results (f ++ entry_bounds formals) line) (each_calls_same d results h line (e ++ entry_bounds formals) (f ++ entry_bounds formals) inner)
 
 -- a line that is no FUNCTION of one line
-plain_same : (d : ℕ) (x : TypedForm) → form_names d x ≡ false → (line : Location) (e f : Env) → DifferAt d e f
+plain_same : (d : ℕ) (x : TypedForm) → form_depends d x ≡ false → (line : Location) (e f : Env) → DifferAt d e f
     → evaluated_faults line e (form_uses x e line) (form_calls x e line) ≡ evaluated_faults line f (form_uses x f line) (form_calls x f line)
 plain_same d x h line e f m =
     evaluated_same d line e f m (form_uses x e line) (form_uses x f line) (form_uses_same d x h line e f m) (form_calls x e line) (form_calls x f line) (form_calls_same d x h line e f m)
 
-pub line_faults_same : (d : ℕ) (x : TypedForm) → form_names d x ≡ false → (line : Location) → IsSame d (λ env. line_faults x env line)
+pub line_faults_same : (d : ℕ) (x : TypedForm) → form_depends d x ≡ false → (line : Location) → IsSame d (λ env. line_faults x env line)
 line_faults_same d (form.OneLineFunction formals results) h line e f m = results_same d formals results h line e f m
 line_faults_same d form.Declaration h line e f m = plain_same d form.Declaration h line e f m
 line_faults_same d (form.Abbreviation el) h line e f m = plain_same d (form.Abbreviation el) h line e f m

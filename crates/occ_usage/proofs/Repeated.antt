@@ -18,7 +18,7 @@ use Rattle.occ_usage_values.specs.declared.uses.Use.{Use}
 use Rattle.occ_usage.specs.AbbreviationRule.{abbreviation_at}
 use Rattle.occ_usage.specs.Comparing.{are_compared, is_compared}
 use Rattle.occ_usage.specs.Lines.{Under, components, items_of, known_replicator, rounds_to, with_index}
-use Rattle.occ_usage.specs.Naming.{lines_name}
+use Rattle.occ_usage.specs.Naming.{lines_depend}
 use Rattle.occ_usage.specs.ParallelRule.{block_faults, own_faults, parallel_at}
 use Rattle.occ_usage.specs.Rounds.{times}
 use Rattle.occ_usage.specs.Trees.{Head, Trees}
@@ -56,7 +56,7 @@ at_least (suc k) w = (k, refl)
 
 -- ---- uses
 
-pub alike_distinct : (env : Env) (h : Head) (t : Trees) (k : KnownReplicator) → known_replicator h.form ≡ Some k → lines_name (length env) t ≡ false → 1 ≤ k.count
+pub alike_distinct : (env : Env) (h : Head) (t : Trees) (k : KnownReplicator) → known_replicator h.form ≡ Some k → lines_depend (length env) t ≡ false → 1 ≤ k.count
     → distinct (joined (items_of t (with_index env k.base 0))) ≡ distinct (joined (components env h (items_of t)))
 alike_distinct env h t k known names some =
     let us = joined (items_of t (with_index env k.base 0)) in
@@ -67,17 +67,17 @@ alike_distinct env h t k known names some =
 
 -- ---- what is reported
 
-pub alike_abbreviations : (env : Env) (h : Head) (t : Trees) (k : KnownReplicator) → known_replicator h.form ≡ Some k → lines_name (length env) t ≡ false
+pub alike_abbreviations : (env : Env) (h : Head) (t : Trees) (k : KnownReplicator) → known_replicator h.form ≡ Some k → lines_depend (length env) t ≡ false
     → times k.count (reported_of abbreviation_at t (with_index env k.base 0)) ≡ under_reported env h (reported_of abbreviation_at t)
 alike_abbreviations env h t k known names =
     sym (rounds_under env h k (reported_of abbreviation_at t) known ∙ rounds_times env k.base (reported_of abbreviation_at t) (reported_abbreviation_same (length env) t names) k.count)
 
-alike_under : (env : Env) (h : Head) (t : Trees) (k : KnownReplicator) → known_replicator h.form ≡ Some k → lines_name (length env) t ≡ false
+alike_under : (env : Env) (h : Head) (t : Trees) (k : KnownReplicator) → known_replicator h.form ≡ Some k → lines_depend (length env) t ≡ false
     → times k.count (reported_of parallel_at t (with_index env k.base 0)) ≡ under_reported env h (reported_of parallel_at t)
 alike_under env h t k known names =
     sym (rounds_under env h k (reported_of parallel_at t) known ∙ rounds_times env k.base (reported_of parallel_at t) (reported_parallel_same (length env) t names) k.count)
 
-alike_components : (env : Env) (h : Head) (t : Trees) (k : KnownReplicator) → known_replicator h.form ≡ Some k → lines_name (length env) t ≡ false
+alike_components : (env : Env) (h : Head) (t : Trees) (k : KnownReplicator) → known_replicator h.form ≡ Some k → lines_depend (length env) t ≡ false
     → components env h (items_of t) ≡ replicate k.count (joined (items_of t (with_index env k.base 0)))
 alike_components env h t k known names = rounds_components env h k (items_of t) known ∙ rounds_copies env k.base (items_of t) (items_of_same (length env) t names) k.count
 
@@ -120,7 +120,7 @@ repeated_twice f n line env us compared more =
     ∙ copies_faults line env us count.0
 
 -- what one round uses and reports, so often, with what the rounds have in common
-pub alike_parallel : (env : Env) (h : Head) (t : Trees) (k : KnownReplicator) (old mid new : List Diag) (us : List Use) → known_replicator h.form ≡ Some k → lines_name (length env) t ≡ false
+pub alike_parallel : (env : Env) (h : Head) (t : Trees) (k : KnownReplicator) (old mid new : List Diag) (us : List Use) → known_replicator h.form ≡ Some k → lines_depend (length env) t ≡ false
     → mid ≡ old ++ times k.count (reported_of parallel_at t (with_index env k.base 0)) → us ≡ joined (items_of t (with_index env k.base 0))
     → new ≡ mid ++ own_faults h.form h.place env (replicate k.count us)
     → new ≡ old ++ line_reported parallel_at env h t (reported_of parallel_at t)

@@ -3,7 +3,7 @@ use Rattle.std.proofs.Common.{◌≡◌, ◌∙◌, ◌++◌, ◌+◌, ◌||◌,
 use Rattle.occ_base.specs.Errors.{error_at}
 use Rattle.occ_base.specs.declared.diag.Diag.{Diag}
 use Rattle.occ_alias.specs.Entering.{body_bound, entry_bounds, specified}
-use Rattle.occ_alias.specs.Naming.{elements_name, form_names}
+use Rattle.occ_alias.specs.Naming.{elements_depend, form_depends}
 use Rattle.occ_alias.proofs.Sameness.{differ_more, form_effect_same, form_uses_same, length_same, line_faults_same, root_name_same, specified_same, used_same}
 use Rattle.occ_project.specs.declared.expanded.Location.{Location}
 use Rattle.occ_scope.specs.declared.meaning.ScopeEntry.{ScopeEntry}
@@ -28,7 +28,7 @@ use Rattle.occ_usage_values.proofs.Differing.{left_false, right_false}
 use Rattle.occ_usage.specs.AbbreviationRule.{abbreviation_at}
 use Rattle.occ_usage.specs.Effect.{effect_after, effect_under, inner, is_body, line_effect, lines_effect}
 use Rattle.occ_usage.specs.Lines.{Under, added, added_by, after_by, body_over, components, components_by, ends_item, entered, items, items_of, known_replicator, line_uses, rounds_to, under_uses, with_index}
-use Rattle.occ_usage.specs.Naming.{lines_name}
+use Rattle.occ_usage.specs.Naming.{lines_depend}
 use Rattle.occ_usage.specs.ParallelRule.{assignment_faults, block_faults, own_faults, parallel_at, targets}
 use Rattle.occ_usage.specs.Trees.{Empty, Head, Tree, Trees}
 use Rattle.occ_usage.specs.Walk.{Finding, Rule, reported, reported_of, rounds_reported, under_reported_by}
@@ -36,22 +36,22 @@ use Rattle.occ_usage.specs.Walk.{Finding, Rule, reported, reported_of, rounds_re
 -- ---- lines that do not name it
 
 record PartsUnnamed (d : ℕ) (h : Head) (t following : Trees) : Type 0 where
-  form : form_names d h.form ≡ false
-  under : lines_name d t ≡ false
-  after : lines_name d following ≡ false
+  form : form_depends d h.form ≡ false
+  under : lines_depend d t ≡ false
+  after : lines_depend d following ≡ false
 
-parts_unnamed : (d : ℕ) (h : Head) (t following : Trees) → lines_name d (Tree h t following) ≡ false → PartsUnnamed d h t following
+parts_unnamed : (d : ℕ) (h : Head) (t following : Trees) → lines_depend d (Tree h t following) ≡ false → PartsUnnamed d h t following
 parts_unnamed d h t following n =
-    let first : (form_names d h.form || lines_name d t) ≡ false = left_false (form_names d h.form || lines_name d t) (lines_name d following) n in record {
-      form = left_false (form_names d h.form) (lines_name d t) first;
-      under = right_false (form_names d h.form) (lines_name d t) first;
-      after = right_false (form_names d h.form || lines_name d t) (lines_name d following) n;
+    let first : (form_depends d h.form || lines_depend d t) ≡ false = left_false (form_depends d h.form || lines_depend d t) (lines_depend d following) n in record {
+      form = left_false (form_depends d h.form) (lines_depend d t) first;
+      under = right_false (form_depends d h.form) (lines_depend d t) first;
+      after = right_false (form_depends d h.form || lines_depend d t) (lines_depend d following) n;
     }
 
 -- ---- effects
 
 -- what comes into scope after a line with this effect
-effect_after_same : (d : ℕ) (h : Head) → form_names d h.form ≡ false → (outer outer1 e f : Env) → DifferAt d outer outer1 → DifferAt d e f → (does : Bool) (adds : Option (List ScopeEntry))
+effect_after_same : (d : ℕ) (h : Head) → form_depends d h.form ≡ false → (outer outer1 e f : Env) → DifferAt d outer outer1 → DifferAt d e f → (does : Bool) (adds : Option (List ScopeEntry))
     → DifferAt d (effect_after outer e h does adds) (effect_after outer1 f h does adds)
 effect_after_same d h n outer outer1 e f o m does None = o
 effect_after_same d h n outer outer1 e f o m does (Some entries) =
@@ -59,7 +59,7 @@ effect_after_same d h n outer outer1 e f o m does (Some entries) =
     (specified_same d h.form n h.place entries e f m)
     (differ_more d e f (if is_body h.form then body_bound [] does ∷ [] else specified e h.place entries h.form) m)
 
-lines_effect_same : (d : ℕ) (t : Trees) → lines_name d t ≡ false → (outer outer1 e f : Env) → DifferAt d outer outer1 → DifferAt d e f → lines_effect t outer e ≡ lines_effect t outer1 f
+lines_effect_same : (d : ℕ) (t : Trees) → lines_depend d t ≡ false → (outer outer1 e f : Env) → DifferAt d outer outer1 → DifferAt d e f → lines_effect t outer e ≡ lines_effect t outer1 f
 lines_effect_same d Empty n outer outer1 e f o m = refl
 lines_effect_same d (Tree h t following) n outer outer1 e f o m =
     let parts = parts_unnamed d h t following n in
@@ -72,7 +72,7 @@ lines_effect_same d (Tree h t following) n outer outer1 e f o m =
     ap (λ (does : Bool). line_effect e h does || lines_effect following outer (effect_after outer e h does h.adds)) under
     ∙ ap₂ (λ (x y : Bool). (x || (lines_effect t (inner f h) (inner f h) && not (is_body h.form))) || y) (form_effect_same d h.form own e f m) later
 
-effect_under_same : (d : ℕ) (t : Trees) (h : Head) → lines_name d t ≡ false → IsSame d (λ env. effect_under t env h)
+effect_under_same : (d : ℕ) (t : Trees) (h : Head) → lines_depend d t ≡ false → IsSame d (λ env. effect_under t env h)
 effect_under_same d t h n e f m = let within = differ_more d e f (entry_bounds h.enters) m in lines_effect_same d t n (inner e h) (inner f h) (inner e h) (inner f h) within within
 
 -- ---- uses
@@ -94,7 +94,7 @@ components_by_same d (Some k) h under u e f m = rounds_same d k.count k.base und
 components_same : (d : ℕ) (h : Head) (under : Under) → UnderSame d under → IsSame d (λ env. components env h under)
 components_same d h under u = components_by_same d (known_replicator h.form) h under u
 
-line_uses_same : (d : ℕ) (h : Head) (under : Under) → form_names d h.form ≡ false → UnderSame d under → IsSame d (λ env. line_uses env h under)
+line_uses_same : (d : ℕ) (h : Head) (under : Under) → form_depends d h.form ≡ false → UnderSame d under → IsSame d (λ env. line_uses env h under)
 line_uses_same d h under own u e f m =
     ap₂ (λ (us vs : List Use). us ++ vs) (form_uses_same d h.form own h.place e f m) (ap (λ (xs : List (List Use)). under_uses h.form (joined xs)) (components_same d h under u e f m))
 
@@ -103,24 +103,24 @@ body_over_same d h e f m us vs does is p q =
     ap₂ (λ (xs : List Use) (t : Bool). body_over e h xs t) p q
     ∙ ap (λ (n : ℕ). body_bound (body_uses n (n + length h.enters) h.place vs) is) (length_same d e f m)
 
-entered_same : (d : ℕ) (h : Head) → form_names d h.form ≡ false → (e f : Env) → DifferAt d e f → (us vs : List Use) (does is : Bool) → us ≡ vs → does ≡ is → (entries : List ScopeEntry)
+entered_same : (d : ℕ) (h : Head) → form_depends d h.form ≡ false → (e f : Env) → DifferAt d e f → (us vs : List Use) (does is : Bool) → us ≡ vs → does ≡ is → (entries : List ScopeEntry)
     → entered e h us does entries ≡ entered f h vs is entries
 entered_same d h own e f m us vs does is p q entries =
     ap₂ (λ (x : Bound) (xs : List Bound). if is_body h.form then x ∷ [] else xs) (body_over_same d h e f m us vs does is p q) (specified_same d h.form own h.place entries e f m)
 
-added_by_same : (d : ℕ) (h : Head) → form_names d h.form ≡ false → (e f : Env) → DifferAt d e f → (us vs : List Use) (does is : Bool) → us ≡ vs → does ≡ is → (adds : Option (List ScopeEntry))
+added_by_same : (d : ℕ) (h : Head) → form_depends d h.form ≡ false → (e f : Env) → DifferAt d e f → (us vs : List Use) (does is : Bool) → us ≡ vs → does ≡ is → (adds : Option (List ScopeEntry))
     → added_by e h us does adds ≡ added_by f h vs is adds
 added_by_same d h own e f m us vs does is p q None = refl
 added_by_same d h own e f m us vs does is p q (Some entries) = entered_same d h own e f m us vs does is p q entries
 
-added_same : (d : ℕ) (h : Head) (t : Trees) (under : Under) → form_names d h.form ≡ false → lines_name d t ≡ false → UnderSame d under → IsSame d (λ env. added env h t under)
+added_same : (d : ℕ) (h : Head) (t : Trees) (under : Under) → form_depends d h.form ≡ false → lines_depend d t ≡ false → UnderSame d under → IsSame d (λ env. added env h t under)
 added_same d h t under own n u e f m =
     added_by_same d h own e f m _ _ _ _ (ap joined (components_same d h under u e f m)) (effect_under_same d t h n e f m) h.adds
 
 grown_same : (d : ℕ) (e f more others : Env) → DifferAt d e f → more ≡ others → DifferAt d (e ++ more) (f ++ others)
 grown_same d e f more others m p = subst (λ (z : Env). DifferAt d (e ++ more) (f ++ z)) p (differ_more d e f more m)
 
-items_same : (d : ℕ) (t : Trees) → lines_name d t ≡ false → (outer outer1 e f : Env) → DifferAt d outer outer1 → DifferAt d e f → (own own1 : List Use) → own ≡ own1
+items_same : (d : ℕ) (t : Trees) → lines_depend d t ≡ false → (outer outer1 e f : Env) → DifferAt d outer outer1 → DifferAt d e f → (own own1 : List Use) → own ≡ own1
     → items t outer e own ≡ items t outer1 f own1
 items_same d Empty n outer outer1 e f o m own own1 p = ap (λ (us : List Use). us ∷ []) p
 items_same d (Tree h t following) n outer outer1 e f o m own own1 p =
@@ -136,14 +136,14 @@ items_same d (Tree h t following) n outer outer1 e f o m own own1 p =
     = items_same d following after outer outer1 _ _ o grown _ _ line in
     ap₂ (λ (xs ys : List (List Use)). if ends_item h.adds then xs else ys) (ap₂ (λ (us : List Use) (xs : List (List Use)). us ∷ xs) line ended) more
 
-pub items_of_same : (d : ℕ) (t : Trees) → lines_name d t ≡ false → UnderSame d (items_of t)
+pub items_of_same : (d : ℕ) (t : Trees) → lines_depend d t ≡ false → UnderSame d (items_of t)
 items_of_same d t n e f m = items_same d t n e f e f m m [] [] refl
 
 -- ---- what is reported
 
 -- a rule reports the same of a line that does not name it
 abbrev RuleSame : Rule → Type 0
-RuleSame r = (d : ℕ) (h : Head) (t : Trees) → form_names d h.form ≡ false → lines_name d t ≡ false → (e f : Env) → DifferAt d e f
+RuleSame r = (d : ℕ) (h : Head) (t : Trees) → form_depends d h.form ≡ false → lines_depend d t ≡ false → (e f : Env) → DifferAt d e f
     → r (record { line = h; under = t; env = e }) ≡ r (record { line = h; under = t; env = f })
 
 abbrev pub FindingSame : ℕ → Finding → Type 0
@@ -158,12 +158,12 @@ under_reported_same : (d : ℕ) (k : Option KnownReplicator) (h : Head) (x : Fin
 under_reported_same d None h x u e f m = u (inner e h) (inner f h) (differ_more d e f (entry_bounds h.enters) m)
 under_reported_same d (Some k) h x u e f m = rounds_reported_same d k.count k.base x u e f m
 
-after_by_same : (d : ℕ) (h : Head) (t : Trees) → form_names d h.form ≡ false → lines_name d t ≡ false → (outer outer1 e f : Env) → DifferAt d outer outer1 → DifferAt d e f → (adds : Option (List ScopeEntry))
+after_by_same : (d : ℕ) (h : Head) (t : Trees) → form_depends d h.form ≡ false → lines_depend d t ≡ false → (outer outer1 e f : Env) → DifferAt d outer outer1 → DifferAt d e f → (adds : Option (List ScopeEntry))
     → DifferAt d (after_by outer e h t adds) (after_by outer1 f h t adds)
 after_by_same d h t own n outer outer1 e f o m None = o
 after_by_same d h t own n outer outer1 e f o m (Some entries) = grown_same d e f _ _ m (added_same d h t (items_of t) own n (items_of_same d t n) e f m)
 
-reported_same : (r : Rule) → RuleSame r → (d : ℕ) (t : Trees) → lines_name d t ≡ false → (outer outer1 e f : Env) → DifferAt d outer outer1 → DifferAt d e f
+reported_same : (r : Rule) → RuleSame r → (d : ℕ) (t : Trees) → lines_depend d t ≡ false → (outer outer1 e f : Env) → DifferAt d outer outer1 → DifferAt d e f
     → reported r t outer e ≡ reported r t outer1 f
 reported_same r u d Empty n outer outer1 e f o m = refl
 reported_same r u d (Tree h t following) n outer outer1 e f o m =
@@ -203,13 +203,13 @@ target_faults_same d line xs e f m =
     ∙ below_alike (length f) (root_fault rule.Written least.Must line e xs) (root_fault rule.Written least.Must line f xs) (λ k.
     fault_if_same d (some_clash rule.Written least.Must k xs) rule.Written line k e f m)
 
-targets_same : (d : ℕ) (els : List TypedElement) → elements_name d els ≡ false → (line : Location) → IsSame d (λ env. targets els env line)
+targets_same : (d : ℕ) (els : List TypedElement) → elements_depend d els ≡ false → (line : Location) → IsSame d (λ env. targets els env line)
 targets_same d [] n line e f m = refl
 targets_same d (el ∷ els) n line e f m =
-    ap₂ (λ (us : List Use) (xs : List (List Use)). us ∷ xs) (used_same d kind.Write el (left_false (element_names d el) (elements_name d els) n) line e f m)
-    (targets_same d els (right_false (element_names d el) (elements_name d els) n) line e f m)
+    ap₂ (λ (us : List Use) (xs : List (List Use)). us ∷ xs) (used_same d kind.Write el (left_false (element_names d el) (elements_depend d els) n) line e f m)
+    (targets_same d els (right_false (element_names d el) (elements_depend d els) n) line e f m)
 
-assignment_same : (d : ℕ) (els : List TypedElement) → elements_name d els ≡ false → (line : Location) → IsSame d (λ env. assignment_faults els env line)
+assignment_same : (d : ℕ) (els : List TypedElement) → elements_depend d els ≡ false → (line : Location) → IsSame d (λ env. assignment_faults els env line)
 assignment_same d [] n line e f m = refl
 assignment_same d (el ∷ []) n line e f m = refl
 assignment_same d (el ∷ other ∷ els) n line e f m =
@@ -221,9 +221,9 @@ block_same d block.Sequence line xs e f m = refl
 block_same d block.Conditional line xs e f m = refl
 block_same d block.Alternation line xs e f m = refl
 
-own_same : (d : ℕ) (x : TypedForm) → form_names d x ≡ false → (line : Location) (xs : List (List Use)) → IsSame d (λ env. own_faults x line env xs)
+own_same : (d : ℕ) (x : TypedForm) → form_depends d x ≡ false → (line : Location) (xs : List (List Use)) → IsSame d (λ env. own_faults x line env xs)
 own_same d (form.Block k r) n line xs e f m = block_same d k line xs e f m
-own_same d (form.Assignment els es) n line xs e f m = assignment_same d els (right_false (exprs_name d es) (elements_name d els) n) line e f m
+own_same d (form.Assignment els es) n line xs e f m = assignment_same d els (right_false (exprs_name d es) (elements_depend d els) n) line e f m
 own_same d other n line xs e f m = refl
 
 parallel_same : RuleSame parallel_at
@@ -231,8 +231,8 @@ parallel_same d h t own n e f m =
     ap (λ (xs : List (List Use)). own_faults h.form h.place e xs) (components_same d h (items_of t) (items_of_same d t n) e f m)
     ∙ own_same d h.form own h.place (components f h (items_of t)) e f m
 
-pub reported_parallel_same : (d : ℕ) (t : Trees) → lines_name d t ≡ false → FindingSame d (reported_of parallel_at t)
+pub reported_parallel_same : (d : ℕ) (t : Trees) → lines_depend d t ≡ false → FindingSame d (reported_of parallel_at t)
 reported_parallel_same d t n e f m = reported_same parallel_at parallel_same d t n e f e f m m
 
-pub reported_abbreviation_same : (d : ℕ) (t : Trees) → lines_name d t ≡ false → FindingSame d (reported_of abbreviation_at t)
+pub reported_abbreviation_same : (d : ℕ) (t : Trees) → lines_depend d t ≡ false → FindingSame d (reported_of abbreviation_at t)
 reported_abbreviation_same d t n e f m = reported_same abbreviation_at abbreviation_same d t n e f e f m m

@@ -14,7 +14,7 @@ ghost use Rattle.occ_usage.specs.Lines.{added as spec_added, after_line, after_l
 ghost use Rattle.occ_usage.specs.AbbreviationRule.{abbreviation_at, abbreviation_faults};
 ghost use Rattle.occ_usage.specs.ParallelRule.{block_faults as spec_block_faults, own_faults as spec_own_faults, parallel_at, parallel_faults};
 ghost use Rattle.occ_usage.specs.Walk.{line_reported, rounds_reported, reported_of, under_reported};
-ghost use Rattle.occ_usage.specs.Naming.{lines_name as spec_lines_name};
+ghost use Rattle.occ_usage.specs.Naming.{lines_depend as spec_lines_depend};
 ghost use Rattle.occ_usage.specs.Trees.{head_of, trees_of, under as spec_under};
 
 use super::effect::{effect_under, is_body};
@@ -393,7 +393,7 @@ fn alike_uses(
     reported: &mut Finding,
 ) -> Result<Items<Use>, AllocError>
     requires known { spec_known_replicator (head_of line.now).form ≡ Some known }
-    requires alike { spec_lines_name (length env.now) (spec_under line.now) ≡ false }
+    requires alike { spec_lines_depend (length env.now) (spec_under line.now) ≡ false }
     requires some { 1 ≤ known.count }
     ensures uses { IfOk result (λ uses. spec_distinct uses ≡ spec_distinct (spec_joined (spec_components env.old (head_of line.now) (items_of (spec_under line.now))))) }
     ensures env { OnOk result (env.new ≡ env.old) }

@@ -1,7 +1,7 @@
--- Whether a line names a specification, without the lines under it. Options, sizes and types are constants and name nothing whose
--- value may differ.
+-- Whether what a line uses or specifies may depend on the value of a specification, without the lines under it: a subscript or a
+-- bound in it names that, or it specifies a name that stands for what names it. Options, sizes and types are constants.
 use Rattle.std.specs.Prelude.{ℕ, Bool, false, ◌||◌, Option, Some, None, List, [], ◌∷◌}
-use Rattle.occ_usage_values.specs.Naming.{actuals_name, element_names, expr_names, exprs_name}
+use Rattle.occ_usage_values.specs.Naming.{actuals_depend, element_depends, element_names, expr_depends, expr_names, exprs_depend}
 use Rattle.occ_typing_statements.specs.declared.replicator_tree.TypedReplicator.{TypedReplicator}
 use Rattle.occ_typing_rules.specs.declared.expr.TypedElement.{TypedElement}
 use Rattle.occ_typing_statements.specs.declared.exchange_tree.TypedInput.{TypedInput}
@@ -15,58 +15,58 @@ use Rattle.occ_typing_lines.specs.declared.tree.TypedForm.TheVariants as form
 use Rattle.occ_typing_lines.specs.declared.tree.TypedGuard.{TypedGuard}
 use Rattle.occ_typing_lines.specs.declared.tree.TypedGuard.TheVariants as guard
 
-abbrev pub elements_name : ℕ → List TypedElement → Bool
-elements_name n [] = false
-elements_name n (el ∷ els) = element_names n el || elements_name n els
+abbrev pub elements_depend : ℕ → List TypedElement → Bool
+elements_depend n [] = false
+elements_depend n (el ∷ els) = element_depends n el || elements_depend n els
 
-abbrev pub target_names : ℕ → TypedTarget → Bool
-target_names n (target.Single el) = element_names n el
-target_names n (target.Counted count el) = element_names n count || element_names n el
+abbrev pub target_depends : ℕ → TypedTarget → Bool
+target_depends n (target.Single el) = element_depends n el
+target_depends n (target.Counted count el) = element_depends n count || element_depends n el
 
-abbrev pub targets_name : ℕ → List TypedTarget → Bool
-targets_name n [] = false
-targets_name n (t ∷ ts) = target_names n t || targets_name n ts
+abbrev pub targets_depend : ℕ → List TypedTarget → Bool
+targets_depend n [] = false
+targets_depend n (t ∷ ts) = target_depends n t || targets_depend n ts
 
-abbrev pub output_names : ℕ → TypedOutput → Bool
-output_names n (output.Value e) = expr_names n e
-output_names n (output.Counted count e) = expr_names n count || expr_names n e
-output_names n (output.Tag place name) = false
+abbrev pub output_depends : ℕ → TypedOutput → Bool
+output_depends n (output.Value e) = expr_depends n e
+output_depends n (output.Counted count e) = expr_depends n count || expr_depends n e
+output_depends n (output.Tag place name) = false
 
-abbrev pub outputs_name : ℕ → List TypedOutput → Bool
-outputs_name n [] = false
-outputs_name n (o ∷ os) = output_names n o || outputs_name n os
+abbrev pub outputs_depend : ℕ → List TypedOutput → Bool
+outputs_depend n [] = false
+outputs_depend n (o ∷ os) = output_depends n o || outputs_depend n os
 
-abbrev pub input_names : ℕ → TypedInput → Bool
-input_names n (input.Plain el ts) = element_names n el || targets_name n ts
-input_names n (input.Time el t) = element_names n el || element_names n t
-input_names n (input.After el e) = element_names n el || expr_names n e
-input_names n (input.Tagged el place name ts) = element_names n el || targets_name n ts
+abbrev pub input_depends : ℕ → TypedInput → Bool
+input_depends n (input.Plain el ts) = element_depends n el || targets_depend n ts
+input_depends n (input.Time el t) = element_depends n el || element_depends n t
+input_depends n (input.After el e) = element_depends n el || expr_depends n e
+input_depends n (input.Tagged el place name ts) = element_depends n el || targets_depend n ts
 
-abbrev pub guard_names : ℕ → TypedGuard → Bool
-guard_names n guard.Skip = false
-guard_names n (guard.Input i) = input_names n i
-guard_names n (guard.CaseInput el) = element_names n el
+abbrev pub guard_depends : ℕ → TypedGuard → Bool
+guard_depends n guard.Skip = false
+guard_depends n (guard.Input i) = input_depends n i
+guard_depends n (guard.CaseInput el) = element_depends n el
 
-abbrev pub replicator_names : ℕ → Option TypedReplicator → Bool
-replicator_names n None = false
-replicator_names n (Some r) = expr_names n r.base || expr_names n r.count
+abbrev pub replicator_depends : ℕ → Option TypedReplicator → Bool
+replicator_depends n None = false
+replicator_depends n (Some r) = expr_depends n r.base || expr_depends n r.count
 
-abbrev pub form_names : ℕ → TypedForm → Bool
-form_names n (form.Abbreviation el) = element_names n el
-form_names n (form.Retyped el) = element_names n el
-form_names n (form.Value e) = expr_names n e
-form_names n (form.RetypedValue e) = expr_names n e
-form_names n (form.OneLineFunction formals results) = exprs_name n results
-form_names n (form.Assignment els es) = exprs_name n es || elements_name n els
-form_names n (form.Output el os) = element_names n el || outputs_name n os
-form_names n (form.Input i) = input_names n i
-form_names n (form.Instance callee xs) = actuals_name n xs
-form_names n (form.Block b r) = replicator_names n r
-form_names n (form.While e) = expr_names n e
-form_names n (form.Selection e) = expr_names n e
-form_names n (form.CaseInput el) = element_names n el
-form_names n (form.Condition e) = expr_names n e
-form_names n (form.Guard e g) = expr_names n e || guard_names n g
-form_names n (form.Variant place name ts) = targets_name n ts
-form_names n (form.Results es) = exprs_name n es
-form_names n other = false
+abbrev pub form_depends : ℕ → TypedForm → Bool
+form_depends n (form.Abbreviation el) = element_names n el
+form_depends n (form.Retyped el) = element_names n el
+form_depends n (form.Value e) = expr_names n e
+form_depends n (form.RetypedValue e) = expr_names n e
+form_depends n (form.OneLineFunction formals results) = exprs_depend n results
+form_depends n (form.Assignment els es) = exprs_depend n es || elements_depend n els
+form_depends n (form.Output el os) = element_depends n el || outputs_depend n os
+form_depends n (form.Input i) = input_depends n i
+form_depends n (form.Instance callee xs) = actuals_depend n xs
+form_depends n (form.Block b r) = replicator_depends n r
+form_depends n (form.While e) = expr_depends n e
+form_depends n (form.Selection e) = expr_depends n e
+form_depends n (form.CaseInput el) = element_depends n el
+form_depends n (form.Condition e) = expr_depends n e
+form_depends n (form.Guard e g) = expr_depends n e || guard_depends n g
+form_depends n (form.Variant place name ts) = targets_depend n ts
+form_depends n (form.Results es) = exprs_depend n es
+form_depends n other = false

@@ -11,6 +11,6 @@ mod scope;
 pub use effect::{each_effect, form_effect};
 pub use entering::{body_bound, enter_all, enter_index, enter_line, index_value, number_after};
 pub use form::{each_uses, form_uses, used};
-pub use naming::form_names;
+pub use naming::form_depends;
 pub use occ_typing_lines::{TypedForm, TypedGuard};
 pub use scope::{UsageScope, is_write};
