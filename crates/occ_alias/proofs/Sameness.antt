@@ -242,7 +242,7 @@ evaluated_same d line e f m us vs p cs ds q =
     ap₂ (λ (xs : List Use) (ys : List Call). evaluated_faults line e xs ys) p q
     ∙ two_faults _ _ _ _ (scope_same d vs e f m) (calls_faults_same d line ds e f m)
 
-results_same : (d : ℕ) (formals : List ScopeEntry) (results : List TypedExpr) → exprs_name d results ≡ false → (line : Location) → IsSame d (λ env. results_faults formals results env line)
+results_same : (d : ℕ) (formals : List ScopeEntry) (results : List TypedExpr) → exprs_depend d results ≡ false → (line : Location) → IsSame d (λ env. results_faults formals results env line)
 results_same d formals results h line e f m =
     let inner = differ_more d e f (entry_bounds formals) m in
     evaluated_same d line (e ++ entry_bounds formals) (f ++ entry_bounds formals) inner
