@@ -21,7 +21,7 @@ use Rattle.occ_usage_conflicts.specs.declared.rule.Rule.{Rule as ConflictRule}
 use Rattle.occ_usage_conflicts.specs.declared.rule.Rule.TheVariants as rule
 use Rattle.occ_usage_values.specs.Bounds.{Env}
 use Rattle.occ_usage_values.specs.Differing.{DifferAt, IsSame}
-use Rattle.occ_usage_values.specs.Naming.{element_names, exprs_name}
+use Rattle.occ_usage_values.specs.Naming.{element_depends, exprs_depend}
 use Rattle.occ_usage_values.specs.declared.bound.Bound.{Bound}
 use Rattle.occ_usage_values.specs.declared.uses.Use.{Use}
 use Rattle.occ_usage_values.proofs.Differing.{left_false, right_false}
@@ -206,8 +206,8 @@ target_faults_same d line xs e f m =
 targets_same : (d : ℕ) (els : List TypedElement) → elements_depend d els ≡ false → (line : Location) → IsSame d (λ env. targets els env line)
 targets_same d [] n line e f m = refl
 targets_same d (el ∷ els) n line e f m =
-    ap₂ (λ (us : List Use) (xs : List (List Use)). us ∷ xs) (used_same d kind.Write el (left_false (element_names d el) (elements_depend d els) n) line e f m)
-    (targets_same d els (right_false (element_names d el) (elements_depend d els) n) line e f m)
+    ap₂ (λ (us : List Use) (xs : List (List Use)). us ∷ xs) (used_same d kind.Write el (left_false (element_depends d el) (elements_depend d els) n) line e f m)
+    (targets_same d els (right_false (element_depends d el) (elements_depend d els) n) line e f m)
 
 assignment_same : (d : ℕ) (els : List TypedElement) → elements_depend d els ≡ false → (line : Location) → IsSame d (λ env. assignment_faults els env line)
 assignment_same d [] n line e f m = refl
@@ -223,7 +223,7 @@ block_same d block.Alternation line xs e f m = refl
 
 own_same : (d : ℕ) (x : TypedForm) → form_depends d x ≡ false → (line : Location) (xs : List (List Use)) → IsSame d (λ env. own_faults x line env xs)
 own_same d (form.Block k r) n line xs e f m = block_same d k line xs e f m
-own_same d (form.Assignment els es) n line xs e f m = assignment_same d els (right_false (exprs_name d es) (elements_depend d els) n) line e f m
+own_same d (form.Assignment els es) n line xs e f m = assignment_same d els (right_false (exprs_depend d es) (elements_depend d els) n) line e f m
 own_same d other n line xs e f m = refl
 
 parallel_same : RuleSame parallel_at

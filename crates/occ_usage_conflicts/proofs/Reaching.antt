@@ -43,12 +43,14 @@ below_cut m (suc n) f w h = by_test (m == suc n) refl (λ v. below_cut m n f v (
       let v : m ≤ n = grind (arith, e, w) in
       ap (λ (ds : List Diag). below n f ++ ds) (h n v (omega arith)) ∙ append-nil (below n f) ∙ before v
 
+-- of a root in which nothing clashes by any rule
+pub no_root_faults : (line : Location) (env : List Bound) (cs : List (List Use)) (k : ℕ) → ((r : Rule) → some_clash r least.May k cs ≡ false) → root_faults line env cs k ≡ []
+no_root_faults line env cs k h =
+    ap (λ (x : Bool). fault_if x rule.Written line env k ++ fault_if (some_clash rule.Input least.May k cs) rule.Input line env k ++ fault_if (some_clash rule.Output least.May k cs) rule.Output line env k) (h rule.Written)
+    ∙ ap (λ (x : Bool). fault_if x rule.Input line env k ++ fault_if (some_clash rule.Output least.May k cs) rule.Output line env k) (h rule.Input)
+    ∙ ap (λ (x : Bool). fault_if x rule.Output line env k) (h rule.Output)
+
 pub cut_faults : (line : Location) (env : List Bound) (cs : List (List Use)) (count : ℕ) → count ≤ length env
     → ((r : Rule) (root : ℕ) → count ≤ root → root < length env → some_clash r least.May root cs ≡ false)
     → below count (root_faults line env cs) ≡ component_faults line env cs
-cut_faults line env cs count w h = sym (below_cut count (length env) (root_faults line env cs) w none) where
-  none : (k : ℕ) → count ≤ k → k < length env → root_faults line env cs k ≡ []
-  none k a b =
-      ap (λ (x : Bool). fault_if x rule.Written line env k ++ fault_if (some_clash rule.Input least.May k cs) rule.Input line env k ++ fault_if (some_clash rule.Output least.May k cs) rule.Output line env k) (h rule.Written k a b)
-      ∙ ap (λ (x : Bool). fault_if x rule.Input line env k ++ fault_if (some_clash rule.Output least.May k cs) rule.Output line env k) (h rule.Input k a b)
-      ∙ ap (λ (x : Bool). fault_if x rule.Output line env k) (h rule.Output k a b)
+cut_faults line env cs count w h = sym (below_cut count (length env) (root_faults line env cs) w (λ k a b. no_root_faults line env cs k (λ r. h r k a b)))

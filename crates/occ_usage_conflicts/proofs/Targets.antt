@@ -4,7 +4,7 @@ use Rattle.occ_base.specs.declared.diag.Diag.{Diag}
 use Rattle.occ_usage_values.specs.declared.bound.Bound.{Bound}
 use Rattle.occ_usage_values.specs.declared.uses.Use.{Use}
 use Rattle.occ_project.specs.declared.expanded.Location.{Location}
-use Rattle.occ_usage_conflicts.specs.ParallelRule.{below, fault_if, root_fault, some_clash, target_faults}
+use Rattle.occ_usage_conflicts.specs.ParallelRule.{below, fault_if, root_fault, root_faults, some_clash}
 use Rattle.occ_usage_conflicts.specs.declared.rule.Least.{Least}
 use Rattle.occ_usage_conflicts.specs.declared.rule.Least.TheVariants as least
 use Rattle.occ_usage_conflicts.specs.declared.rule.Rule.{Rule}
@@ -13,7 +13,7 @@ use Rattle.occ_usage_conflicts.specs.declared.standing.Standing.{Standing}
 use Rattle.occ_usage_conflicts.specs.declared.standing.Standing.TheVariants as standing
 use Rattle.occ_usage_conflicts.specs.inside.Standings.{IsIn, MayBeIn}
 use Rattle.occ_usage_conflicts.proofs.Clashing.{clash_found}
-use Rattle.occ_usage_conflicts.proofs.Reaching.{below_cut}
+use Rattle.occ_usage_conflicts.proofs.Reaching.{below_cut, no_root_faults}
 
 -- ---- one more use
 
@@ -74,3 +74,9 @@ pub skipped_targets : (line : Location) (env : List Bound) (components : List (L
     → below next (root_fault rule.Written least.Must line env components) ≡ below from (root_fault rule.Written least.Must line env components)
 skipped_targets line env components from next w none =
     below_cut from next (root_fault rule.Written least.Must line env components) w (λ k a b. ap (λ (x : Bool). fault_if x rule.Written line env k) (none rule.Written least.Must k a b))
+
+pub skipped_roots : (line : Location) (env : List Bound) (components : List (List Use)) (from next : ℕ) → from ≤ next
+    → ((r : Rule) (l : Least) (root : ℕ) → from ≤ root → root < next → some_clash r l root components ≡ false)
+    → below next (root_faults line env components) ≡ below from (root_faults line env components)
+skipped_roots line env components from next w none =
+    below_cut from next (root_faults line env components) w (λ k a b. no_root_faults line env components k (λ r. none r least.May k a b))

@@ -1,6 +1,6 @@
 //! The bucket of a use, by root, line and indices. Nothing is promised of it but that it is made of the use.
 ghost use Rattle.std.specs.Prelude.{◌≡◌, ◌<◌};
-ghost use Rattle.occ_usage_conflicts.specs.inside.Numbering.{bucket_of as spec_bucket_of, mixed as spec_mixed, number_of as spec_number_of, number_of_places, number_of_selector, with_selectors as spec_with_selectors};
+ghost use Rattle.occ_usage_conflicts.specs.inside.Numbering.{bucket_of as spec_bucket_of, mixed as spec_mixed, number_of as spec_number_of, number_of_bytes, number_of_places, number_of_selector, with_selectors as spec_with_selectors};
 
 use occ_types::{PartSelector, Places};
 use occ_usage_values::Use;
@@ -12,6 +12,17 @@ fn mixed(seed: u64, more: u64) -> u64
     seed.wrapping_add(more).wrapping_mul(0x9E37_79B9_7F4A_7C15)
 }
 
+/// One number of bytes.
+fn of_bytes(bytes: &[u8]) -> u64
+    ensures { result ≡ number_of_bytes 0 bytes.now }
+{
+    let mut number = 0;
+    for byte in bytes {
+        number = mixed(number, u64::from(*byte));
+    }
+    number
+}
+
 fn of_places(places: Places) -> u64
     ensures { result ≡ number_of_places places }
 {
@@ -19,7 +30,7 @@ fn of_places(places: Places) -> u64
         Places::None => 0,
         Places::All => 1,
         Places::From(first) => first.unsigned_abs(),
-        Places::Run(first, _) => first.unsigned_abs(),
+        Places::Run(first, count) => mixed(first.unsigned_abs(), u64::from(count)),
     }
 }
 
@@ -27,7 +38,7 @@ fn of_selector(selector: &PartSelector) -> u64
     ensures { result ≡ number_of_selector selector.now }
 {
     match selector {
-        PartSelector::Field(name) => name.as_bytes().len() as u64,
+        PartSelector::Field(name) => of_bytes(name.as_bytes()),
         PartSelector::Interval(interval) => of_places(interval.places),
     }
 }

@@ -65,7 +65,7 @@ fn between_any(rule: Rule, least: Least, root: usize, some: &[Use], others: &[It
 }
 
 /// Whether two different components clash in a root.
-fn some_clash(rule: Rule, least: Least, root: usize, components: &[Items<Use>]) -> bool
+pub(crate) fn some_clash(rule: Rule, least: Least, root: usize, components: &[Items<Use>]) -> bool
     ensures { result ≡ spec_some_clash rule least root components.now }
 {
     for (place, one) in components.iter().enumerate() {
@@ -78,7 +78,7 @@ fn some_clash(rule: Rule, least: Least, root: usize, components: &[Items<Use>]) 
 }
 
 /// The least root of uses that is not below this one, if it is below the other: else the other.
-fn next_root(components: &[Items<Use>], from: usize, count: usize) -> usize
+pub(crate) fn next_root(components: &[Items<Use>], from: usize, count: usize) -> usize
     requires { from ≤ count }
     ensures from { from ≤ result }
     ensures within { result ≤ count }

@@ -1,12 +1,13 @@
 //! The faults of a PAR, root by root and rule by rule, from what its components were found to use.
 ghost use Rattle.std.specs.Prelude.{◌≡◌, ◌<◌, ◌≤◌, ◌++◌, ◌∷◌, [], ℕ, OnOk, Some, length};
 ghost use Rattle.occ_usage_conflicts.specs.Components.{parted};
-ghost use Rattle.occ_usage_conflicts.specs.ParallelRule.{below, component_faults as spec_component_faults, fault_if};
+ghost use Rattle.occ_usage_conflicts.specs.ParallelRule.{below, component_faults as spec_component_faults, fault_if, root_faults as spec_root_faults};
 ghost use Rattle.occ_usage_conflicts.specs.inside.Accumulating.{broken_faults, faults_in};
 
 use super::accumulate::{RootUses, parted_root_uses, root_uses, twice_root_uses};
+use super::pairs::{next_root, some_clash};
 use super::reach::{last_parted_root, last_root, last_root_of};
-use super::rule::{Rule, code, root_name};
+use super::rule::{Least, Rule, code, root_name};
 use occ_base::{Diag, Items};
 use occ_project::Location;
 use occ_usage_values::{Bound, Use};
@@ -95,6 +96,58 @@ fn count_to(last: usize, count: usize) -> usize
     if last < count { last + 1 } else { count }
 }
 
+/// So many components with so many uses are compared each with each: else their uses are joined root by root.
+const FEW: usize = 32;
+
+/// Whether so few components have so few uses.
+fn are_few(components: &[Items<Use>]) -> bool {
+    let mut left = FEW;
+    for component in components {
+        if component.len() > left {
+            return false;
+        }
+        left -= component.len();
+    }
+    components.len() <= FEW
+}
+
+/// Adds the faults of a root, by each rule, of components that are compared each with each.
+fn clash_faults(
+    alloc: Global,
+    line: &Location,
+    env: &[Bound],
+    root: usize,
+    components: &[Items<Use>],
+    faults: &mut Items<Diag>,
+) -> Result<(), AllocError>
+    ensures { OnOk result (faults.new ≡ faults.old ++ spec_root_faults line.now env.now components.now root) }
+{
+    let is_written = some_clash(Rule::Written, Least::May, root, components);
+    root_fault(alloc, is_written, Rule::Written, line, env, root, faults)?;
+    let is_input = some_clash(Rule::Input, Least::May, root, components);
+    root_fault(alloc, is_input, Rule::Input, line, env, root, faults)?;
+    let is_output = some_clash(Rule::Output, Least::May, root, components);
+    root_fault(alloc, is_output, Rule::Output, line, env, root, faults)
+}
+
+/// What is reported of a PAR with few components, of which the roots that they use are gone through.
+fn few_faults(
+    alloc: Global,
+    line: &Location,
+    env: &[Bound],
+    components: &[Items<Use>],
+    faults: &mut Items<Diag>,
+) -> Result<(), AllocError>
+    ensures { OnOk result (faults.new ≡ faults.old ++ spec_component_faults line.now env.now components.now) }
+{
+    let mut root = next_root(components, 0, env.len());
+    while root < env.len() {
+        clash_faults(alloc, line, env, root, components, faults)?;
+        root = next_root(components, root + 1, env.len());
+    }
+    Ok(())
+}
+
 /// What is reported of a PAR with these components, where these specifications stand round it.
 pub fn component_faults(
     alloc: Global,
@@ -107,6 +160,9 @@ pub fn component_faults(
 {
     if components.len() < 2 {
         return Ok(());
+    }
+    if are_few(components) {
+        return few_faults(alloc, line, env, components, faults);
     }
     let table = root_uses(
         alloc,

@@ -1,5 +1,5 @@
 -- A number of each use, by which it is looked for: the same for those that are the same.
-use Rattle.std.specs.Prelude.{ℕ, ◌+◌, ◌-◌, ◌*◌, ◌/◌, ◌%◌, ◌^◌, bit_and, unsigned_abs, List, [], ◌∷◌, length}
+use Rattle.std.specs.Prelude.{ℕ, ◌+◌, ◌-◌, ◌*◌, ◌/◌, ◌%◌, ◌^◌, bit_and, unsigned_abs, List, [], ◌∷◌}
 use Rattle.occ_usage_values.specs.declared.uses.Use.{Use}
 use Rattle.occ_types.specs.declared.interface.PartSelector.{PartSelector}
 use Rattle.occ_types.specs.declared.interface.PartSelector.TheVariants as s
@@ -9,14 +9,19 @@ use Rattle.occ_types.specs.declared.interface.Places.TheVariants as places
 abbrev pub mixed : ℕ → ℕ → ℕ
 mixed seed more = (seed + more) % 2 ^ 64 * 11400714819323198485 % 2 ^ 64
 
+-- of bytes, after these
+abbrev pub number_of_bytes : ℕ → List ℕ → ℕ
+number_of_bytes seed [] = seed
+number_of_bytes seed (b ∷ bs) = number_of_bytes (mixed seed b) bs
+
 abbrev pub number_of_places : Places → ℕ
 number_of_places places.None = 0
 number_of_places places.All = 1
 number_of_places (places.From a) = unsigned_abs a
-number_of_places (places.Run a n) = unsigned_abs a
+number_of_places (places.Run a n) = mixed (unsigned_abs a) n
 
 abbrev pub number_of_selector : PartSelector → ℕ
-number_of_selector (s.Field name) = length name
+number_of_selector (s.Field name) = number_of_bytes 0 name
 number_of_selector (s.Interval i) = number_of_places i.places
 
 abbrev pub with_selectors : ℕ → List PartSelector → ℕ
