@@ -2,4 +2,4 @@ pub mod Accumulating
 pub mod Numbering
 pub mod Linking
 pub mod Spreading
-pub mod Standings
+pub mod Presences

@@ -9,12 +9,12 @@ mod each_once;
 mod joining;
 mod numbering;
 mod pairs;
+mod presence;
 mod reach;
 mod reporting;
 pub mod rows;
 mod rule;
 mod same;
-mod standing;
 
 pub use body::{body_uses, outside_uses};
 pub use each_once::distinct;

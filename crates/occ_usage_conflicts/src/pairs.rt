@@ -4,14 +4,14 @@ ghost use Rattle.occ_usage_conflicts.specs.declared.rule.Least.{Least as ALeast}
 ghost use Rattle.occ_usage_conflicts.specs.declared.rule.Least.TheVariants as least;
 ghost use Rattle.occ_usage_conflicts.specs.declared.rule.Rule.{Rule as ARule};
 ghost use Rattle.occ_usage_conflicts.specs.declared.rule.Rule.TheVariants as rule;
-ghost use Rattle.occ_usage_conflicts.specs.declared.standing.Standing.TheVariants as standing;
+ghost use Rattle.occ_usage_conflicts.specs.declared.presence.Presence.TheVariants as presence;
 ghost use Rattle.occ_usage_conflicts.specs.ParallelRule.{clash, clash_between, some_clash as spec_some_clash, target_faults as spec_target_faults, uses_clash};
 ghost use Rattle.std.specs.List.{list_any};
 ghost use Rattle.occ_usage_values.specs.declared.uses.Use.{Use as AUse};
 
+use super::presence::{Presence, presences};
 use super::reporting::root_fault;
 use super::rule::{Least, Rule, conflict, counts};
-use super::standing::{Standing, standings};
 use occ_base::{Diag, Items};
 use occ_project::Location;
 use occ_usage_parts::overlap;
@@ -130,13 +130,13 @@ fn few_target_faults(
 }
 
 /// Whether components clash in a root of which the uses stand so.
-fn do_targets_clash(stand: Standing, root: usize, components: &[Items<Use>]) -> bool
-    requires { stand ≢ standing.Several → spec_some_clash rule.Written least.Must root components.now ≡ false }
+fn do_targets_clash(stand: Presence, root: usize, components: &[Items<Use>]) -> bool
+    requires { stand ≢ presence.Several → spec_some_clash rule.Written least.Must root components.now ≡ false }
     ensures { result ≡ spec_some_clash rule.Written least.Must root components.now }
 {
     match stand {
-        Standing::Several => some_clash(Rule::Written, Least::Must, root, components),
-        Standing::Nowhere | Standing::One(_) => false,
+        Presence::Several => some_clash(Rule::Written, Least::Must, root, components),
+        Presence::Nowhere | Presence::One(_) => false,
     }
 }
 
@@ -153,7 +153,7 @@ pub fn target_faults(
     if components.len() <= FEW {
         return few_target_faults(alloc, line, env, components, faults);
     }
-    let stands = standings(alloc, env.len(), components)?;
+    let stands = presences(alloc, env.len(), components)?;
     for (root, stand) in stands.as_slice().iter().enumerate() {
         let is_broken = do_targets_clash(*stand, root, components);
         root_fault(alloc, is_broken, Rule::Written, line, env, root, faults)?;

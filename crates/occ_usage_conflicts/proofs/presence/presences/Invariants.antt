@@ -1,7 +1,7 @@
 use Rattle.std.proofs.Common.{◌≡◌, ◌<◌, ℕ, List, Some, length, slice_get}
 use Rattle.occ_usage_values.specs.declared.uses.Use.{Use}
-use Rattle.occ_usage_conflicts.specs.inside.Standings.{IsIn}
-use Rattle.occ_usage_conflicts.proofs.standing.standings.Given as goal
+use Rattle.occ_usage_conflicts.specs.inside.Presences.{IsIn}
+use Rattle.occ_usage_conflicts.proofs.presence.presences.Given as goal
 
 abbrev pub invariant-loop-place : goal.invariant-loop-place
 invariant-loop-place l =

@@ -4,9 +4,9 @@ ghost use Rattle.occ_usage_values.specs.declared.uses.Use.{Use as AUse};
 ghost use Rattle.occ_usage_conflicts.specs.ParallelRule.{some_clash};
 ghost use Rattle.occ_usage_conflicts.specs.declared.rule.Least.{Least as ALeast};
 ghost use Rattle.occ_usage_conflicts.specs.declared.rule.Rule.{Rule as ARule};
-ghost use Rattle.occ_usage_conflicts.specs.declared.standing.Standing.{Standing as AStanding};
-ghost use Rattle.occ_usage_conflicts.specs.declared.standing.Standing.TheVariants as standing;
-ghost use Rattle.occ_usage_conflicts.specs.inside.Standings.{IsIn, MayBeIn};
+ghost use Rattle.occ_usage_conflicts.specs.declared.presence.Presence.{Presence as APresence};
+ghost use Rattle.occ_usage_conflicts.specs.declared.presence.Presence.TheVariants as presence;
+ghost use Rattle.occ_usage_conflicts.specs.inside.Presences.{IsIn, MayBeIn};
 
 use occ_base::Items;
 use occ_usage_values::Use;
@@ -14,7 +14,7 @@ use std::alloc::{AllocError, Global};
 
 /// Where the uses of a root stand.
 #[derive(Clone, Copy)]
-pub(crate) enum Standing {
+pub(crate) enum Presence {
     /// In no component.
     Nowhere,
     /// In the component with this number alone.
@@ -24,25 +24,25 @@ pub(crate) enum Standing {
 }
 
 /// Where they stand with one more, which is of this component.
-fn with_component(stand: Standing, component: usize) -> Standing
+fn with_component(stand: Presence, component: usize) -> Presence
     ensures here { MayBeIn result component }
     ensures kept { (i : ℕ) → MayBeIn stand i → MayBeIn result i }
 {
     match stand {
-        Standing::Nowhere => Standing::One(component),
-        Standing::One(other) => {
+        Presence::Nowhere => Presence::One(component),
+        Presence::One(other) => {
             if other == component {
-                Standing::One(component)
+                Presence::One(component)
             } else {
-                Standing::Several
+                Presence::Several
             }
         }
-        Standing::Several => Standing::Several,
+        Presence::Several => Presence::Several,
     }
 }
 
 /// A use of a root stands in this component, if the root is one of these.
-fn note(stands: &mut Items<Standing>, root: usize, component: usize)
+fn note(stands: &mut Items<Presence>, root: usize, component: usize)
     ensures count { length stands.new ≡ length stands.old }
     ensures here { root < length stands.old → IsIn stands.new root component }
     ensures kept { (other i : ℕ) → IsIn stands.old other i → IsIn stands.new other i }
@@ -55,7 +55,7 @@ fn note(stands: &mut Items<Standing>, root: usize, component: usize)
 }
 
 /// These uses stand in this component.
-fn note_uses(stands: &mut Items<Standing>, component: usize, uses: &[Use])
+fn note_uses(stands: &mut Items<Presence>, component: usize, uses: &[Use])
     ensures count { length stands.new ≡ length stands.old }
     ensures here { (k : ℕ) (u : AUse) → slice_get uses.now k ≡ Some u → u.part.root < length stands.old → IsIn stands.new u.part.root component }
     ensures kept { (other i : ℕ) → IsIn stands.old other i → IsIn stands.new other i }
@@ -66,16 +66,16 @@ fn note_uses(stands: &mut Items<Standing>, component: usize, uses: &[Use])
 }
 
 /// Where the uses of so many roots stand: of one that does not stand in several no two components clash.
-pub(crate) fn standings(
+pub(crate) fn presences(
     alloc: Global,
     count: usize,
     components: &[Items<Use>],
-) -> Result<Items<Standing>, AllocError>
+) -> Result<Items<Presence>, AllocError>
     ensures count { IfOk result (λ stands. length stands ≡ count) }
-    ensures apart { IfOk result (λ stands. (r : ARule) (l : ALeast) (root : ℕ) (stand : AStanding) → slice_get stands root ≡ Some stand → stand ≢ standing.Several → some_clash r l root components.now ≡ false) }
+    ensures apart { IfOk result (λ stands. (r : ARule) (l : ALeast) (root : ℕ) (stand : APresence) → slice_get stands root ≡ Some stand → stand ≢ presence.Several → some_clash r l root components.now ≡ false) }
 {
     let mut stands = Vec::new(alloc);
-    stands.resize(count, Standing::Nowhere)?;
+    stands.resize(count, Presence::Nowhere)?;
     let mut stands = Items::from_vec(stands);
     for (place, component) in components.iter().enumerate() {
         note_uses(&mut stands, place, component.as_slice());

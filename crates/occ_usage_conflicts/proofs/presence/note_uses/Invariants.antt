@@ -1,7 +1,7 @@
 use Rattle.std.proofs.Common.{◌≡◌, ◌<◌, ℕ, Some, length, slice_get}
 use Rattle.occ_usage_values.specs.declared.uses.Use.{Use}
-use Rattle.occ_usage_conflicts.specs.inside.Standings.{IsIn}
-use Rattle.occ_usage_conflicts.proofs.standing.note_uses.Given as goal
+use Rattle.occ_usage_conflicts.specs.inside.Presences.{IsIn}
+use Rattle.occ_usage_conflicts.proofs.presence.note_uses.Given as goal
 
 abbrev pub invariant-loop-one : goal.invariant-loop-one
 invariant-loop-one l =
