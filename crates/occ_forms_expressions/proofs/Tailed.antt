@@ -7,6 +7,7 @@ use Rattle.occ_forms_expressions.specs.declared.operator.Dyadic.TheVariants as d
 use Rattle.occ_forms_expressions.specs.declared.tail.Tail.{Tail}
 use Rattle.occ_forms_expressions.specs.declared.tail.Tail.TheVariants as ta
 use Rattle.occ_forms_expressions.specs.declared.tree.Expr.{Expr}
+use Rattle.occ_forms_expressions.specs.declared.tree.Expr.TheVariants as xv
 use Rattle.occ_forms_expressions.specs.declared.tree.Operand.{Operand}
 use Rattle.occ_forms_expressions.specs.declared.tree.PairOperator.{PairOperator}
 use Rattle.occ_forms_expressions.specs.declared.tree.PairOperator.TheVariants as pa
@@ -141,6 +142,16 @@ pub nothing_only : (tokens : List Token) → ((d : Dyadic) (k : List Token) → 
 nothing_only tokens none ta.Nothing k ends e = (refl, e)
 nothing_only tokens none (ta.Pair operator o) k ends e = absurd (none (dy.Pair operator) (operand_then o k) e)
 nothing_only tokens none (ta.Run operator o os) k ends e = absurd (none (dy.Run operator) (operand_then o (many (operated_of operator) os k)) e)
+
+-- where operands end, the first stands alone
+pub ended_only : (first : Operand) (tokens : List Token) → IsEndOfRun tokens
+    → (x : Tail) (k : List Token) → IsEndOfRun k → tokens ≡ tail_then x k → (xv.Alone first ≡ joined first x) × (tokens ≡ k)
+ended_only first tokens ended x k ends e =
+    let h = nothing_only tokens (λ d begun is. dyadic_no_end d tokens begun is ended) x k ends e in
+    (ap (joined first) h.0, h.1)
+
+pub ended_found : (first : Operand) (tokens : List Token) → operand_then first tokens ≡ expr_then (xv.Alone first) tokens
+ended_found first tokens = sym (expr_alone_spells first tokens)
 
 pub cut : (a b : Token) (r q : List Token) → a ∷ r ≡ b ∷ q → (a ≡ b) × (r ≡ q)
 cut a b r q e = (cc, cc)

@@ -1,5 +1,5 @@
 //! Parses operators and operands after the first operand: `a - b`, or `a + b + ..` with one operator throughout.
-ghost use Rattle.occ_forms_expressions.specs.Reading.{dyadic_token, IsEndOfRun, Reads, ReadsExpr};
+ghost use Rattle.occ_forms_expressions.specs.Reading.{dyadic_token, ends_run as spec_ends_run, is_end_symbol as spec_is_end_symbol, IsEndOfRun, Reads, ReadsExpr};
 ghost use Rattle.occ_forms_expressions.specs.Spelling.{expr_then, many, operand_then, operated_of, run_token};
 ghost use Rattle.occ_forms_expressions.specs.inside.Tails.{joined, tail_then};
 ghost use Rattle.occ_forms_expressions.specs.declared.operator.Dyadic.{Dyadic as ADyadic};
@@ -13,7 +13,7 @@ use super::operator::{Dyadic, dyadic_operator};
 use super::token_reader::first;
 use super::tree::{Expr, Operand, PairOperator, RunOperator};
 use occ_base::{Boxed, Items};
-use occ_lines::Token;
+use occ_lines::{Symbol, Token, Word};
 use std::alloc::{AllocError, Global};
 
 /// What stands after the first operand of an expression.
@@ -22,6 +22,38 @@ pub enum Tail {
     Nothing,
     Pair(PairOperator, Boxed<Operand>),
     Run(RunOperator, Boxed<Operand>, Items<Operand>),
+}
+
+/// Whether the symbol may follow an expression.
+fn is_end_symbol(symbol: Symbol) -> bool
+    ensures { result ≡ spec_is_end_symbol symbol }
+{
+    matches!(
+        symbol,
+        Symbol::Assign
+            | Symbol::Counted
+            | Symbol::Close
+            | Symbol::CloseIndex
+            | Symbol::Comma
+            | Symbol::Semicolon
+            | Symbol::Colon
+            | Symbol::Input
+            | Symbol::Output
+            | Symbol::Ampersand
+    )
+}
+
+/// Whether operands with operators between them end here.
+#[inline(always)]
+pub fn ends_run(tokens: &[Token]) -> bool
+    ensures { result ≡ spec_ends_run tokens.now }
+{
+    match tokens {
+        [] => true,
+        [Token::Symbol(symbol), ..] => is_end_symbol(*symbol),
+        [Token::Word(word), ..] => matches!(word, Word::For | Word::From),
+        _ => false,
+    }
 }
 
 /// What follows the operator, where it stands first.
@@ -114,8 +146,9 @@ fn together(alloc: Global, first: Operand, tail: Tail) -> Result<Expr, AllocErro
     }
 }
 
-/// An expression of which the first operand is read.
-pub fn after_first<'a, F: Fn(Global, &[Token]) -> Result<Option<(Expr, &[Token])>, AllocError>>(
+/// An expression of which the first operand is read, whatever stands after it.
+#[inline(never)]
+fn after_first_operand<'a, F: Fn(Global, &[Token]) -> Result<Option<(Expr, &[Token])>, AllocError>>(
     alloc: Global,
     first: Operand,
     tokens: &'a [Token],
@@ -131,6 +164,24 @@ pub fn after_first<'a, F: Fn(Global, &[Token]) -> Result<Option<(Expr, &[Token])
     };
     let whole = together(alloc, first, tail)?;
     Ok(Some((whole, rest)))
+}
+
+/// An expression of which the first operand is read. Most end there.
+pub fn after_first<'a, F: Fn(Global, &[Token]) -> Result<Option<(Expr, &[Token])>, AllocError>>(
+    alloc: Global,
+    first: Operand,
+    tokens: &'a [Token],
+    inner: &F,
+) -> Result<Option<(Expr, &'a [Token])>, AllocError>
+    requires inner { ReadsExpr (length tokens.now) (F.pre inner.now) (F.post inner.now) }
+    ensures found { IfOk result (λ r. IfSome r (λ y. operand_then first tokens.now ≡ expr_then y.0 y.1.now)) }
+    ensures shorter { IfOk result (λ r. IfSome r (λ y. length y.1.now ≤ length tokens.now)) }
+    ensures only { IfOk result (λ r. (x : ATail) (k : List AToken) → IsEndOfRun k → tokens.now ≡ tail_then x k → Reads r (joined first x) k) }
+{
+    if ends_run(tokens) {
+        return Ok(Some((Expr::Alone(first), tokens)));
+    }
+    after_first_operand(alloc, first, tokens, inner)
 }
 
 /// An expression that begins with an operand.

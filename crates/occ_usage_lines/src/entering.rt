@@ -13,7 +13,7 @@ use occ_types::{Effect, Export, FormalUse, Interface, Value};
 use occ_typing_lines::TypedForm;
 use occ_typing_rules::{TypedElement, TypedExpr};
 use occ_usage_conflicts::body_uses;
-use occ_usage_parts::{Part, SelectedPart, copies};
+use occ_usage_parts::{Part, SelectedPart, Selectors};
 use occ_usage_values::{
     Bound, Chain, Use, element_size, element_uses, expression_uses, is_timer, place, size, value,
 };
@@ -222,7 +222,7 @@ fn exported_use(
     Ok(Use {
         part: Part {
             root: number_after(number, found.formal as usize)?,
-            selectors: copies(alloc, found.selectors.as_slice())?,
+            selectors: Selectors::of(alloc, found.selectors.as_slice())?,
         },
         kind: found.kind,
         line: line.share()?,

@@ -3,3 +3,4 @@ pub mod Runs
 pub mod PlaceSets
 pub mod Paths
 pub mod Chains
+pub mod Selectors

@@ -20,4 +20,4 @@ pub use comparing::{overlap, overlap_selected};
 pub use part::{Overlap, Part};
 pub use paths::Paths;
 pub use place::{Ending, SelectedPart};
-pub use selectors::copies;
+pub use selectors::{Selectors, copies};

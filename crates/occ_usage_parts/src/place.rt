@@ -5,7 +5,7 @@ ghost use Rattle.occ_usage_parts.specs.Selecting.{first_inside, followed, follow
 use super::chain::Chain;
 use super::interval::{following, inside, segment, subscript};
 use super::part::Part;
-use super::selectors::{add_copies, copies};
+use super::selectors::{Selectors, add_copies, copies};
 use occ_base::{Items, Name};
 use occ_types::{Interval, PartSelector};
 use std::alloc::{AllocError, Global};
@@ -133,7 +133,7 @@ impl SelectedPart {
         end(&mut self.selectors, self.ending)?;
         Ok(Part {
             root: self.root,
-            selectors: self.selectors,
+            selectors: Selectors::listed(self.selectors),
         })
     }
 
@@ -149,7 +149,7 @@ impl SelectedPart {
         }
         Ok(Part {
             root: self.root,
-            selectors: all,
+            selectors: Selectors::listed(all),
         })
     }
 

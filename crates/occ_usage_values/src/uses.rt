@@ -4,7 +4,7 @@ ghost use Rattle.occ_usage_values.specs.Uses.{at_line};
 
 use occ_project::Location;
 use occ_types::UseKind;
-use occ_usage_parts::{Chain, Part, copies};
+use occ_usage_parts::{Chain, Part, Selectors};
 use std::alloc::{AllocError, Global};
 
 /// A use of a part of a variable, a channel or a formal.
@@ -26,7 +26,7 @@ impl Use {
         Ok(Use {
             part: Part {
                 root: self.part.root,
-                selectors: copies(alloc, self.part.selectors.as_slice())?,
+                selectors: Selectors::of(alloc, self.part.selectors.as_slice())?,
             },
             kind: self.kind,
             line: line.share()?,

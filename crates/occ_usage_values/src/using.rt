@@ -1,20 +1,22 @@
 //! The uses of expressions, elements and instances where they are evaluated. Nothing under SIZE is used.
 //! `docs/LANGUAGE.md, Uses`.
-ghost use Rattle.std.specs.Prelude.{◌≡◌, ◌++◌, IfOk, None, OnOk, Some, slice_get};
-ghost use Rattle.occ_usage_parts.specs.Selecting.{whole as spec_whole};
+ghost use Rattle.std.specs.Prelude.{◌≡◌, ◌++◌, ◌∷◌, [], IfOk, None, OnOk, Some, slice_get};
+ghost use Rattle.occ_usage_parts.specs.Selecting.{whole as spec_whole, with_subscript};
 ghost use Rattle.occ_usage_values.specs.Bounds.{body_of};
 ghost use Rattle.occ_usage_values.specs.Calls.{called_all, made as spec_made};
+ghost use Rattle.occ_usage_values.specs.Values.{int_of};
 ghost use Rattle.occ_usage_values.specs.Views.{actual_view, actual_views, call_uses as spec_call_uses, element_view, expr_view, expr_views, placed, places_of, selector_view, selector_views, actuals_uses as spec_actuals_uses, each_uses as spec_each_uses, selectors_uses as spec_selectors_uses};
 
 use super::bound::{Bound, body_at, is_placed, is_root};
 use super::call::{called, push_made};
 use super::placing::{place, select_all};
 use super::uses::Use;
+use super::valuing::{int, value};
 use occ_base::{Items, Shared};
 use occ_project::Location;
 use occ_types::UseKind;
 use occ_typing_rules::{Selector, TypedActual, TypedElement, TypedExpr};
-use occ_usage_parts::{Chain, Part, SelectedPart};
+use occ_usage_parts::{Chain, Part, SelectedPart, Selectors};
 use std::alloc::{AllocError, Global};
 
 /// A use of an element at a line, without those of its subscripts and bounds.
@@ -37,12 +39,46 @@ pub fn use_of(
     if !is_placed(env, spec) {
         return Ok(());
     }
+    use_of_place(alloc, kind, element, env, line, uses)
+}
+
+/// The same, whatever its name stands for.
+#[inline(never)]
+fn use_of_place(
+    alloc: Global,
+    kind: UseKind,
+    element: &TypedElement,
+    env: &[Bound],
+    line: &Location,
+    uses: &mut Items<Use>,
+) -> Result<(), AllocError>
+    ensures { OnOk result (uses.new ≡ uses.old ++ spec_made line.now kind ((element_view element.now).place env.now)) }
+{
     let place = place(alloc, element, env)?;
     push_made(alloc, kind, line, place, uses)
 }
 
+/// A use of a part that no abbreviation leads to.
+#[inline(always)]
+fn push_part(
+    kind: UseKind,
+    part: Part,
+    line: &Location,
+    uses: &mut Items<Use>,
+) -> Result<(), AllocError>
+    ensures { OnOk result (uses.new ≡ uses.old ++ record { part = part; kind = kind; line = line.now; chain = [] } ∷ []) }
+{
+    uses.push(Use {
+        part,
+        kind,
+        line: line.share()?,
+        chain: Chain::none(),
+    })
+}
+
 /// A use of the whole of a root.
-fn push_whole(
+#[inline(always)]
+fn use_of_whole(
     alloc: Global,
     kind: UseKind,
     root: usize,
@@ -51,18 +87,29 @@ fn push_whole(
 ) -> Result<(), AllocError>
     ensures { OnOk result (uses.new ≡ uses.old ++ spec_made line.now kind (Some (spec_whole root))) }
 {
-    uses.push(Use {
-        part: Part {
-            root,
-            selectors: Items::new(alloc),
-        },
-        kind,
-        line: line.share()?,
-        chain: Chain::none(),
-    })
+    let selectors = Selectors::listed(Items::new(alloc));
+    push_part(kind, Part { root, selectors }, line, uses)
 }
 
-/// A use of what these select from a root.
+/// A use of the component of a root that a subscript selects.
+#[inline(always)]
+fn use_of_component(
+    kind: UseKind,
+    root: usize,
+    at: &TypedExpr,
+    env: &[Bound],
+    line: &Location,
+    uses: &mut Items<Use>,
+) -> Result<(), AllocError>
+    ensures { OnOk result (uses.new ≡ uses.old ++ spec_made line.now kind (Some (with_subscript (spec_whole root) (int_of ((expr_view at.now).value env.now))))) }
+{
+    let part = Part::component(root, int(value(at, env)));
+    push_part(kind, part, line, uses)
+}
+
+/// A use of what these select from a root. Most select nothing or a component: then no place is made.
+#[tactic(auto, using(crate::proofs::Views::selector_place_rules))]
+#[inline(always)]
 fn use_of_root(
     alloc: Global,
     kind: UseKind,
@@ -74,9 +121,26 @@ fn use_of_root(
 ) -> Result<(), AllocError>
     ensures { OnOk result (uses.new ≡ uses.old ++ spec_made line.now kind (Some (placed (selector_views selectors.now) env.now None (spec_whole root)))) }
 {
-    if selectors.is_empty() {
-        return push_whole(alloc, kind, root, line, uses);
+    match selectors {
+        [] => use_of_whole(alloc, kind, root, line, uses),
+        [Selector::Component(at)] => use_of_component(kind, root, at.get(), env, line, uses),
+        _ => use_of_selected(alloc, kind, root, selectors, env, line, uses),
     }
+}
+
+/// The same, of any selectors.
+#[inline(never)]
+fn use_of_selected(
+    alloc: Global,
+    kind: UseKind,
+    root: usize,
+    selectors: &[Selector],
+    env: &[Bound],
+    line: &Location,
+    uses: &mut Items<Use>,
+) -> Result<(), AllocError>
+    ensures { OnOk result (uses.new ≡ uses.old ++ spec_made line.now kind (Some (placed (selector_views selectors.now) env.now None (spec_whole root)))) }
+{
     let mut place = SelectedPart::with_room(alloc, root, selectors.len())?;
     select_all(alloc, &mut place, selectors, None, env)?;
     push_made(alloc, kind, line, Some(place), uses)

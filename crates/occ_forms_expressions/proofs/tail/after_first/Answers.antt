@@ -1,5 +1,9 @@
-use Rattle.occ_forms_expressions.proofs.Tailed.{joined_found}
+use Rattle.std.proofs.Common.{◌∙◌, sym}
+use Rattle.occ_forms_expressions.proofs.Tailed.{ended_found, ended_only}
 use Rattle.occ_forms_expressions.proofs.tail.after_first.Goals as goal
 
-pub returns-clause-found : goal.returns-clause-found
-returns-clause-found g c = joined_found _ _ _ _ _ (rw c.in-Some.is at c.in_ok-tail.ensures.found) c.in_ok-whole.ensures
+pub returns-then-ends_run-clause-found : goal.returns-then-ends_run-clause-found
+returns-then-ends_run-clause-found g c = ended_found _ _
+
+pub returns-then-ends_run-clause-only : goal.returns-then-ends_run-clause-only
+returns-then-ends_run-clause-only g c = ended_only _ _ (sym c.ends_run.ensures ∙ c.if-ends_run.true)
