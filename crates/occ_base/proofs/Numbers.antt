@@ -1,5 +1,5 @@
 -- The digits of the number of a short name.
-use Rattle.std.proofs.Common.{◌≡◌, ◌≤◌, ◌<◌, ◌-◌, ◌+◌, ℕ, zero, suc, Bool, true, cond, List, [], ◌∷◌, ◌++◌, length, take, drop, replicate, Some, None, refl, arith, ap, sym, ◌∙◌, nat_le, get_or, append_assoc}
+use Rattle.std.proofs.Common.{◌≡◌, ◌≤◌, ◌<◌, ◌-◌, ◌+◌, ℕ, zero, suc, Bool, true, cond, List, [], ◌∷◌, ◌++◌, length, drop, replicate, Some, None, refl, arith, ap, sym, ◌∙◌, nat_le, get_or, append_assoc}
 use Rattle.std.proofs.Math.ListN.{set}
 use Rattle.std.proofs.lemmas.Bool.{and_parts}
 use Rattle.std.proofs.lemmas.Bool.Decides.{nat_tests}
@@ -7,7 +7,7 @@ use Rattle.std.proofs.lemmas.List.{length-append, length-replicate, replicate_mo
 use Rattle.std.specs.Int.{from_be_bytes, w128}
 use Rattle.std.specs.List.{list_all}
 use Rattle.occ_base.specs.Numbers.{digits, is_byte, is_short, number_of}
-use Rattle.occ_base.proofs.Zeros.{held, long, zeros}
+use Rattle.occ_base.proofs.Zeros.{zeros}
 
 front_zeros : (n k : ℕ) (l : List ℕ) → n ≤ k → drop n (replicate k 0 ++ l) ≡ replicate (k - n) 0 ++ l
 front_zeros zero k l h = let e : k - 0 ≡ k = omega arith in rw e refl
@@ -29,26 +29,19 @@ last_zero n h =
 filled_digits : (n : List ℕ) → length n ≤ 15 → set (n ++ zeros (16 - length n)) 15 (length n) ≡ digits n
 filled_digits n h = ap (λ (l : List ℕ). set l 15 (length n)) (last_zero n h) ∙ set_at (n ++ zeros (15 - length n)) 0 [] (length n) 15 (filled_long n h) ∙ sym (digits_are n h)
 
-held_digits : (m : ℕ) (a : List ℕ) → m ≤ 15 → length a ≡ 16 → drop m a ≡ zeros (16 - m) → set a 15 m ≡ digits (take m a)
-held_digits m a h l z =
-    let n : length (take m a) ≡ m = long m a (omega (arith, h)) l in
-    let e : take m a ++ zeros (16 - length (take m a)) ≡ a = rw n (held m a z) in
-    sym (ap (λ (l : List ℕ). set l 15 m) e) ∙ ap (λ (k : ℕ). set (take m a ++ zeros (16 - length (take m a))) 15 k) (sym n) ∙ filled_digits (take m a) (omega (arith, n, h))
-
 pub bytes_all : (xs : List ℕ) → ((i : ℕ) → get_or xs i 0 < 256) → list_all is_byte xs ≡ true
 bytes_all [] h = refl
 bytes_all (x ∷ xs) h = let e : is_byte x ≡ true = grind (arith, nat_tests, h 0) in rw e (bytes_all xs (λ i. h (suc i)))
 
-take_all : (m : ℕ) (xs : List ℕ) → list_all is_byte xs ≡ true → list_all is_byte (take m xs) ≡ true
-take_all zero xs h = refl
-take_all (suc m) [] h = refl
-take_all (suc m) (x ∷ xs) h = let p = and_parts (is_byte x) (list_all is_byte xs) h in rw p.0 (take_all m xs p.1)
+front_all : (xs ys : List ℕ) → list_all is_byte (xs ++ ys) ≡ true → list_all is_byte xs ≡ true
+front_all [] ys h = refl
+front_all (x ∷ xs) ys h = let p = and_parts (is_byte x) (list_all is_byte (xs ++ ys)) h in rw p.0 (front_all xs ys p.1)
 
--- of bytes as they are held
-pub number_is : (m : ℕ) (a : List ℕ) → m ≤ 15 → length a ≡ 16 → drop m a ≡ zeros (16 - m) → list_all is_byte a ≡ true → Some (from_be_bytes w128 (set a 15 m)) ≡ number_of (take m a)
-number_is m a h l z b =
-    let n : length (take m a) ≡ m = long m a (omega (arith, h)) l in
-    let few : nat_le (length (take m a)) 15 ≡ true = grind (arith, nat_tests, n, h) in
-    let s : is_short (take m a) ≡ true = rw few (take_all m a b) in
-    let e : from_be_bytes w128 (set a 15 m) ≡ from_be_bytes w128 (digits (take m a)) = ap (from_be_bytes w128) (held_digits m a h l z) in
-    ap (λ (k : ℕ). Some k) e ∙ sym (ap (λ (c : Bool). cond c (Some (from_be_bytes w128 (digits (take m a)))) None) s)
+-- of bytes with zeros after them
+pub number_filled : (m : ℕ) (xs a : List ℕ) → a ≡ xs ++ zeros (16 - length xs) → length xs ≡ m → m ≤ 15 → list_all is_byte a ≡ true → Some (from_be_bytes w128 (set a 15 m)) ≡ number_of xs
+number_filled m xs a p n l b =
+    let k : length xs ≤ 15 = omega (arith, n, l) in
+    let few : nat_le (length xs) 15 ≡ true = grind (arith, nat_tests, k) in
+    let s : is_short xs ≡ true = rw few (front_all xs (zeros (16 - length xs)) (rw p at b)) in
+    let d : set a 15 m ≡ digits xs = rw p (rw (← n) (filled_digits xs k)) in
+    ap (λ (x : List ℕ). Some (from_be_bytes w128 x)) d ∙ sym (ap (λ (c : Bool). cond c (Some (from_be_bytes w128 (digits xs))) None) s)

@@ -1,7 +1,7 @@
 -- Bytes with zeros after them, up to one length: what their order and their equality say of the bytes.
-use Rattle.std.proofs.Common.{◌≡◌, ◌≢◌, ◌≤◌, ◌<◌, ◌+◌, ◌-◌, ℕ, suc, true, ◌&&◌, List, [], ◌∷◌, ◌++◌, length, take, drop, replicate, refl, arith, ap, subst, ◌∙◌, bytes_eq, nat_eq, take-append-drop, length-take}
+use Rattle.std.proofs.Common.{◌≡◌, ◌≢◌, ◌≤◌, ◌<◌, ◌+◌, ◌-◌, ℕ, zero, suc, true, ◌&&◌, List, [], ◌∷◌, ◌++◌, length, take, drop, replicate, refl, arith, ap, sym, subst, ◌∙◌, append_assoc, bytes_eq, nat_eq, take-append-drop, length-take}
 use Rattle.std.proofs.lemmas.Cmp.{ranked}
-use Rattle.std.proofs.lemmas.List.{length-append, length-replicate}
+use Rattle.std.proofs.lemmas.List.{drop-replicate, length-append, length-replicate}
 use Rattle.std.specs.Cmp.Lexicographic.{slice_cmp, bytes_decides}
 use Rattle.std.specs.Ordering.{nat_cmp, ordering_then, MatchOrdering}
 use Rattle.std.specs.declared.cmp.Ordering.{Ordering}
@@ -70,24 +70,39 @@ filled_same (x ∷ xs) (y ∷ ys) j k h e = ap (λ b. nat_eq x y && b) (filled_s
 
 -- ---- as they are held
 
-pub held : (m : ℕ) (a : List ℕ) → drop m a ≡ zeros (16 - m) → take m a ++ zeros (16 - m) ≡ a
-held m a z = rw (← z) (take-append-drop m a)
+pub held : (k m : ℕ) (a : List ℕ) → drop m a ≡ zeros k → take m a ++ zeros k ≡ a
+held k m a z = rw (← z) (take-append-drop m a)
 
-pub long : (m : ℕ) (a : List ℕ) → m ≤ 16 → length a ≡ 16 → length (take m a) ≡ m
-long m a l w = omega (arith, length-take m a, l, w)
+pub long : (m : ℕ) (a xs : List ℕ) → take m a ≡ xs → m ≤ length a → length xs ≡ m
+long m a xs s l = ap length (sym s) ∙ omega (arith, length-take m a, l)
 
-pub held_same : (m n : ℕ) (a b : List ℕ) → m ≤ 16 → n ≤ 16 → length a ≡ 16 → length b ≡ 16 → drop m a ≡ zeros (16 - m) → drop n b ≡ zeros (16 - n) → m ≡ n → bytes_eq a b ≡ bytes_eq (take m a) (take n b)
-held_same m n a b k l v w y z e =
-    let p = filled_same (take m a) (take n b) (16 - m) (16 - n) (omega (arith, long m a k v, long n b l w, e)) (omega (arith, e)) in
-    let o : bytes_eq a b ≡ bytes_eq (take m a ++ zeros (16 - m)) (take n b ++ zeros (16 - n)) = rw (held m a y) (rw (held n b z) refl) in
-    o ∙ p
+zeros_more : (j k : ℕ) → zeros j ++ zeros k ≡ zeros (j + k)
+zeros_more zero k = let e : 0 + k ≡ k = omega arith in rw e refl
+zeros_more (suc j) k = let e : suc j + k ≡ suc (j + k) = omega arith in rw e (ap (λ (l : List ℕ). 0 ∷ l) (zeros_more j k))
 
-pub held_order : (m n : ℕ) (a b : List ℕ) → m ≤ 16 → n ≤ 16 → length a ≡ 16 → length b ≡ 16 → drop m a ≡ zeros (16 - m) → drop n b ≡ zeros (16 - n) → ordering_then (slice_cmp nat_cmp a b) (nat_cmp m n) ≡ slice_cmp nat_cmp (take m a) (take n b)
-held_order m n a b k l v w y z =
-    let p = long m a k v in
-    let q = long n b l w in
-    let o : ordering_then (slice_cmp nat_cmp a b) (nat_cmp m n) ≡ ordering_then (slice_cmp nat_cmp (take m a ++ zeros (16 - m)) (take n b ++ zeros (16 - n))) (nat_cmp (length (take m a)) (length (take n b))) = rw (held m a y) (rw (held n b z) (rw p (rw q refl))) in
-    o ∙ filled_order (take m a) (take n b) (16 - m) (16 - n) (omega (arith, p, q, k, l))
+more_zeros : (xs : List ℕ) (j k : ℕ) → (xs ++ zeros j) ++ zeros k ≡ xs ++ zeros (j + k)
+more_zeros xs j k = append_assoc xs (zeros j) (zeros k) ∙ ap (λ (l : List ℕ). xs ++ l) (zeros_more j k)
+
+-- bytes at the front of 14, with two zeros more
+pub filled : (m : ℕ) (a xs front back : List ℕ) → take m a ≡ xs → m ≤ 14 → length a ≡ 14 → drop m a ≡ zeros (14 - m) → front ≡ a → back ≡ drop 14 (replicate 16 0) → front ++ back ≡ xs ++ zeros (16 - length xs)
+filled m a xs front back s l w z f b =
+    let n : length xs ≡ m = long m a xs s (omega (arith, l, w)) in
+    let e : back ≡ zeros 2 = b ∙ drop-replicate 14 16 0 in
+    let h : front ≡ xs ++ zeros (14 - m) = f ∙ sym (held (14 - m) m a z) ∙ ap (λ (l : List ℕ). l ++ zeros (14 - m)) s in
+    let c : 14 - m + 2 ≡ 16 - length xs = omega (arith, n, l) in
+    rw h (rw e (more_zeros xs (14 - m) 2 ∙ ap (λ (k : ℕ). xs ++ zeros k) c))
+
+-- bytes at the front of 16 zeros
+pub spread : (xs front back : List ℕ) → front ≡ xs → back ≡ drop (length xs) (replicate 16 0) → front ++ back ≡ xs ++ zeros (16 - length xs)
+spread xs front back f b = rw f (rw (b ∙ drop-replicate (length xs) 16 0) refl)
+
+pub same_filled : (xs ys a b : List ℕ) → a ≡ xs ++ zeros (16 - length xs) → b ≡ ys ++ zeros (16 - length ys) → length xs ≡ length ys → bytes_eq a b ≡ bytes_eq xs ys
+same_filled xs ys a b p q h = rw p (rw q (filled_same xs ys (16 - length xs) (16 - length ys) h (ap (λ (n : ℕ). 16 - n) h)))
+
+pub order_filled : (m n : ℕ) (xs ys a b : List ℕ) → a ≡ xs ++ zeros (16 - length xs) → b ≡ ys ++ zeros (16 - length ys) → length xs ≡ m → length ys ≡ n → m ≤ 14 → n ≤ 14 → ordering_then (slice_cmp nat_cmp a b) (nat_cmp m n) ≡ slice_cmp nat_cmp xs ys
+order_filled m n xs ys a b p q i j k l =
+    let o = filled_order xs ys (16 - length xs) (16 - length ys) (omega (arith, i, j, k, l)) in
+    rw p (rw q (rw (← i) (rw (← j) o)))
 
 -- the second of two orders counts where the first is equal
 pub second_counts : (s o t : Ordering) → s ≡ Equal → ordering_then s o ≡ t → o ≡ t

@@ -1,5 +1,5 @@
-//! Names in texts and diagnostics. Up to 16 bytes are inline, so that most copies take no allocation, and most comparisons
-//! are of numbers.
+//! Names in texts and diagnostics. Up to 14 bytes are inline, so that most names take no allocation, and most comparisons
+//! are of numbers. Copies of longer names share their bytes.
 ghost use Rattle.std.proofs.Common.{rules};
 ghost use Rattle.std.proofs.lemmas.Cmp.{nat_list_cmp_total};
 ghost use Rattle.std.specs.Cmp.{partial_order_from_own_ties};
@@ -10,16 +10,18 @@ ghost use Rattle.std.specs.Prelude.{◌≡◌, IfOk};
 ghost use Rattle.std.specs.Str.{bytes_eq};
 ghost use Rattle.occ_base.specs.Numbers.{number_of};
 
-use super::short::Short;
+use super::shared::Shared;
+use super::short::{self, Short};
+use sqlite_items::Items;
 use std::alloc::{AllocError, Global};
 use std::cmp::Ordering;
 use std::marker::Model;
 
-/// The bytes of a name. Most names of programs are short.
+/// The bytes of a name. Most names of programs are short, and none is larger for the others.
 #[derive(Debug, Drop)]
 enum Bytes {
     Short(Short),
-    Long(Vec<u8>),
+    Long(Shared<Items<u8>>),
 }
 
 /// A name in the text of a program, or what a diagnostic names: its bytes, in contracts and in order.
@@ -36,11 +38,9 @@ impl Model for Name {
 
     ghost coded = { coded_list coded_ℕ };
 
-    ghost use Rattle.occ_base.specs.inside.Short.{IsHeld, bytes_of};
+    ghost use Rattle.occ_base.specs.inside.Short.{bytes_of};
 
     ghost view = { λ n. bytes_of n.bytes };
-
-    ghost invariant = { λ n. IsHeld n.bytes };
 }
 
 impl Name {
@@ -48,10 +48,10 @@ impl Name {
     pub fn from_slice(alloc: Global, bytes: &[u8]) -> Result<Name, AllocError>
         ensures { IfOk result (λ name. name ≡ bytes.now) }
     {
-        let bytes = if bytes.len() <= 16 {
+        let bytes = if bytes.len() <= 14 {
             Bytes::Short(Short::new(bytes))
         } else {
-            Bytes::Long(Vec::from_slice(alloc, bytes)?)
+            Bytes::Long(Shared::new(alloc, Items::from_slice(alloc, bytes)?)?)
         };
         Ok(Name { bytes })
     }
@@ -64,7 +64,9 @@ impl Name {
             Bytes::Short(bytes) => Ok(Name {
                 bytes: Bytes::Short(*bytes),
             }),
-            Bytes::Long(bytes) => Name::from_slice(alloc, bytes.as_slice()),
+            Bytes::Long(bytes) => Ok(Name {
+                bytes: Bytes::Long(bytes.share()?),
+            }),
         }
     }
 
@@ -74,7 +76,7 @@ impl Name {
     {
         match &self.bytes {
             Bytes::Short(bytes) => bytes.as_bytes(),
-            Bytes::Long(bytes) => bytes.as_slice(),
+            Bytes::Long(bytes) => bytes.get().as_slice(),
         }
     }
 
@@ -84,7 +86,7 @@ impl Name {
     {
         match &self.bytes {
             Bytes::Short(bytes) => bytes.number(),
-            Bytes::Long(_) => None,
+            Bytes::Long(bytes) => short::number(bytes.get().as_slice()),
         }
     }
 }

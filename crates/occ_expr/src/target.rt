@@ -10,7 +10,7 @@ use occ_base::{Fault, Items, Name};
 use occ_expr_operations::ElementReading;
 use occ_forms_expressions::{Element, Expr};
 use occ_scope::{Meaning, Scope};
-use occ_typing_operands::{Kind, Known, known};
+use occ_typing_operands::{Kind, Known, known_as};
 use occ_typing_rules::{TypedElement, target};
 use std::alloc::{AllocError, Global};
 
@@ -86,7 +86,7 @@ fn name_target(
     let Meaning::Element(whole) = referent.meaning.get() else {
         return named_target(alloc, name, &[], scope, faults);
     };
-    let kind = target(alloc, known(&whole.of, whole.value)?, whole, faults)?;
+    let kind = target(alloc, known_as(&whole.of, whole.value)?, whole, faults)?;
     let known = Known {
         of: whole.of.share()?,
         value: whole.value,

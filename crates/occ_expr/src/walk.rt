@@ -37,7 +37,7 @@ use occ_forms_expressions::{
 };
 use occ_scope::{Meaning, Scope, carries, data_type};
 use occ_types::{Formal, KnownType, OccType, Protocol, fields_of, unnamed};
-use occ_typing_operands::{Kind, Known, field, known as known_as};
+use occ_typing_operands::{Kind, Known, field, known_as};
 use occ_typing_rules::{OpenExpr, Selector, TypedElement, TypedExpr, matched};
 use occ_typing_tables::{BoundTerms, Term, report_hidden};
 use std::alloc::{AllocError, Global};

@@ -14,7 +14,7 @@ use super::reading::{Reading, Readings};
 use occ_base::{Code, Fault, Items, Name, Shared, report};
 use occ_forms_expressions::{Expr, Operand};
 use occ_scope::Scope;
-use occ_types::{Formal, OccType};
+use occ_types::{Formal, MaybeValue, OccType};
 use occ_typing_operands::{Kind, Known, known};
 use occ_typing_rules::{OpenExpr, TypedActual, TypedExpr, each_placed};
 use occ_typing_tables::Term;
@@ -136,7 +136,7 @@ fn called_tree(
     let actuals = actuals?;
     let known = Known {
         of: of.share()?,
-        value: None,
+        value: MaybeValue::none(),
     };
     let tree = TypedExpr::Call(known, callee, actuals);
     Ok(Some(Shared::new(alloc, tree)?))

@@ -54,7 +54,7 @@ fn decorated_kind(
     match kind {
         Kind::Faulty => Ok(Kind::Faulty),
         Kind::Untyped(_) => wanted(alloc, to, kind, faults),
-        Kind::Known(found) => decorated(to, found.of.get(), found.value, faults),
+        Kind::Known(found) => decorated(to, found.of.get(), found.value.get(), faults),
     }
 }
 

@@ -28,7 +28,7 @@ use occ_base::{Code, Fault, Items, Name, Shared};
 use occ_forms_expressions::{Element, Expr, Literal, Operand};
 use occ_scope::{Meaning, Referent, Scope, element};
 use occ_types::{KnownType, OccType};
-use occ_typing_operands::{Kind, UntypedConstant, known, subscripted};
+use occ_typing_operands::{Kind, UntypedConstant, known_as, subscripted};
 use occ_typing_rules::{OpenExpr, Selector};
 use occ_typing_tables::{BoundTerms, Term, alone, decorated_table, report_hidden, segment, size};
 use std::alloc::{AllocError, Global};
@@ -147,7 +147,7 @@ fn named(
     ensures faults { OnOk result (faults.new ≡ faults.old ++ (spec_named (spec_element name.now (visible scope.now name.now))).faults) }
 {
     match element(alloc, scope, name, faults)? {
-        Some(whole) => known(&whole.of, whole.value),
+        Some(whole) => known_as(&whole.of, whole.value),
         None => Ok(Kind::Faulty),
     }
 }
@@ -170,7 +170,7 @@ pub fn referred(
         return named(alloc, scope, name, faults);
     };
     match referent.meaning.get() {
-        Meaning::Element(whole) => known(&whole.of, whole.value),
+        Meaning::Element(whole) => known_as(&whole.of, whole.value),
         _ => named(alloc, scope, name, faults),
     }
 }

@@ -47,7 +47,7 @@ impl Measured for Detail {
             }
             Detail::Array(first, more, _) => array_has_many_dimensions(first, more.as_slice()),
             Detail::Builtin(dimensions, builtin) => {
-                prefixed_has_many_dimensions(dimensions.as_slice(), builtin)
+                prefixed_has_many_dimensions(dimensions.as_slice(), builtin.get())
             }
             Detail::CountedType(count, component) => {
                 count.has_many_dimensions() || counted_has_many_dimensions(component)

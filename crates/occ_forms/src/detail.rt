@@ -17,6 +17,7 @@ ghost use Rattle.std.specs.Prelude.{IfOk, IfSome, List, length, ℕ, ◌≡◌, 
 
 use super::from_tokens::FromTokens;
 use super::tree::Detail;
+use occ_base::Boxed;
 use occ_forms_expressions::{
     Builtin, DataBase, DataForm, TypeForm, after, after_counted, data_form, element, type_form,
 };
@@ -24,8 +25,8 @@ use occ_lines::{Symbol, Token};
 use std::alloc::{AllocError, Global};
 
 /// The data type, if it is more than a name alone.
-pub fn typed(form: DataForm) -> Option<Detail>
-    ensures { result ≡ typed_of form }
+pub fn typed(alloc: Global, form: DataForm) -> Result<Option<Detail>, AllocError>
+    ensures { IfOk result (λ found. found ≡ typed_of form) }
 {
     let DataForm {
         mut dimensions,
@@ -33,14 +34,15 @@ pub fn typed(form: DataForm) -> Option<Detail>
     } = form;
     match base {
         DataBase::Primitive(primitive) => {
-            Some(Detail::Builtin(dimensions, Builtin::Primitive(primitive)))
+            let builtin = Boxed::new(alloc, Builtin::Primitive(primitive))?;
+            Ok(Some(Detail::Builtin(dimensions, builtin)))
         }
         DataBase::Named(name) => {
             if dimensions.len() == 0 {
-                return None;
+                return Ok(None);
             }
             let first = dimensions.remove(0);
-            Some(Detail::Array(first, dimensions, name))
+            Ok(Some(Detail::Array(first, dimensions, name)))
         }
     }
 }
@@ -78,7 +80,7 @@ pub fn type_detail(
     if let Some(begun) = after_counted(rest) {
         return counted_detail(alloc, form, begun);
     }
-    match typed(form) {
+    match typed(alloc, form)? {
         Some(detail) => Ok(Some((detail, rest))),
         None => Ok(None),
     }
@@ -122,7 +124,7 @@ pub fn builtin_detail(
     let TypeForm::Builtin(dimensions, builtin) = form else {
         return Ok(None);
     };
-    Ok(Some((Detail::Builtin(dimensions, builtin.into_inner()), rest)))
+    Ok(Some((Detail::Builtin(dimensions, builtin), rest)))
 }
 
 impl FromTokens for Detail {

@@ -154,8 +154,9 @@ pub enum Detail {
     Counted(Element, Element),
     /// `[e].. n`: a named type after its dimensions, of which there is a first one.
     Array(Dimension, Items<Dimension>, Name),
-    /// A type that begins with a reserved word after its dimensions.
-    Builtin(Items<Dimension>, Builtin),
+    /// A type that begins with a reserved word after its dimensions. It has a box: with a counted channel in place, this
+    /// would make the largest form.
+    Builtin(Items<Dimension>, Boxed<Builtin>),
     /// `t::[]u`: a counted array.
     CountedType(DataForm, DataForm),
 }

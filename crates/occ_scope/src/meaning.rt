@@ -3,7 +3,7 @@ ghost use Rattle.std.specs.Prelude.{◌≡◌, [], ◌∷◌, IfOk};
 
 use super::scopes::SpecId;
 use occ_base::{Items, Name, Shared, one_item};
-use occ_types::{Formal, KnownType, OccType, Protocol, Value};
+use occ_types::{Formal, KnownType, MaybeValue, OccType, Protocol};
 use std::alloc::{AllocError, Global};
 
 /// Whether something may be written through a name.
@@ -23,7 +23,7 @@ pub struct Whole {
     pub of: Shared<OccType>,
     pub access: Access,
     /// Its value, where it is a constant.
-    pub value: Option<Value>,
+    pub value: MaybeValue,
     /// The name that is reported with faults: its own, or, of an abbreviation, that of the variable, channel or timer
     /// which it abbreviates.
     pub root: Name,

@@ -1,5 +1,6 @@
 -- what no contract of a public call rests on
 pub mod KnownTypes
+pub mod MaybeValues
 pub mod Digests
 pub mod TagNames
 pub mod SoughtTags

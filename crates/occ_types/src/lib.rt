@@ -7,6 +7,7 @@ mod fit;
 mod interface;
 mod known_type;
 mod literal;
+mod maybe_value;
 mod measure;
 mod range;
 pub mod rows;
@@ -30,6 +31,7 @@ pub use interface::{
 };
 pub use known_type::{KnownType, is_too_large};
 pub use literal::{value_of_number, value_of_pattern};
+pub use maybe_value::MaybeValue;
 pub use measure::{Measure, measure_of, measure_protocol};
 pub use same::{same_protocol, same_type};
 pub use size::{bytes_of, is_oversized};

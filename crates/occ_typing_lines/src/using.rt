@@ -92,7 +92,7 @@ fn interface_alone(
 {
     match imports.interface_of(unit) {
         Some(interface) => Ok(Few::one(interface.share()?)),
-        None => Ok(Few::listed(Items::new(alloc))),
+        None => Few::listed(alloc, Items::new(alloc)),
     }
 }
 
@@ -106,7 +106,7 @@ pub fn interfaces_of(
 {
     match units {
         [unit] => interface_alone(alloc, imports, *unit),
-        _ => Ok(Few::listed(each_interface(alloc, imports, units)?)),
+        _ => Few::listed(alloc, each_interface(alloc, imports, units)?),
     }
 }
 

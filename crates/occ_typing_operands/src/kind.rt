@@ -4,14 +4,14 @@ ghost use Rattle.std.specs.Prelude.{◌≡◌, IfOk};
 
 use super::untyped_constant::UntypedConstant;
 use occ_base::Shared;
-use occ_types::{OccType, Value};
+use occ_types::{MaybeValue, OccType, Value};
 use std::alloc::AllocError;
 
 /// The type of an operand, and its value where it is constant.
 #[derive(Drop)]
 pub struct Known {
     pub of: Shared<OccType>,
-    pub value: Option<Value>,
+    pub value: MaybeValue,
 }
 
 impl Known {

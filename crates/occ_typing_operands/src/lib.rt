@@ -17,6 +17,6 @@ pub use operate::{
     type_in,
 };
 pub use part::{field, mismatched, subscripted};
-pub use settle::{int, known, landed, number, settled, untyped};
+pub use settle::{int, known, known_as, landed, number, settled, untyped};
 pub use untyped_constant::UntypedConstant;
 pub use want::{converted, fitted, wanted};

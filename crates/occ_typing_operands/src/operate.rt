@@ -17,7 +17,9 @@ use super::outcome::{apply, misshift, shift, worse};
 use super::settle::{int, landed, number, report_wrong, settled, untyped};
 use super::sum::literal_sum;
 use occ_base::{Code, Fault, Items, Shared, report};
-use occ_types::{Monadic, OccType, Operator, Primitive, Value, as_primitive, base_of, fits, fold};
+use occ_types::{
+    MaybeValue, Monadic, OccType, Operator, Primitive, Value, as_primitive, base_of, fits, fold,
+};
 use std::alloc::{AllocError, Global};
 
 /// What an operator asks of its operands, and which type it gives.
@@ -119,7 +121,7 @@ fn outcome_in(of: Primitive, kind: &Kind) -> TypedValue
     match kind {
         Kind::Faulty => TypedValue::Varying,
         Kind::Untyped(untyped) => untyped.in_type(of),
-        Kind::Known(known) => value_outcome(known.value),
+        Kind::Known(known) => value_outcome(known.value.get()),
     }
 }
 
@@ -344,7 +346,7 @@ fn varies(kind: &Kind) -> bool
     ensures { result ≡ spec_varies kind.now }
 {
     match kind {
-        Kind::Known(known) => known.value.is_none(),
+        Kind::Known(known) => known.value.get().is_none(),
         _ => false,
     }
 }
@@ -402,7 +404,10 @@ fn varying(alloc: Global, op: Operator, of: &Shared<OccType>) -> Result<Kind, Al
     ensures { IfOk result (λ kind. kind ≡ spec_known (spec_given (spec_class_of op) of.now) None) }
 {
     let of = given(alloc, class_of(op), of)?;
-    Ok(Kind::Known(Known { of, value: None }))
+    Ok(Kind::Known(Known {
+        of,
+        value: MaybeValue::none(),
+    }))
 }
 
 /// What an operator gives that stands between each two of these operands; not for shifts.
@@ -551,7 +556,7 @@ fn known_shift(
     if number(base_of(known.of.get())).is_some() && is_int(count.of.get()) {
         return landed(
             &known.of,
-            shift(op, count.value, value_outcome(known.value)),
+            shift(op, count.value.get(), value_outcome(known.value.get())),
             faults,
         );
     }
@@ -564,7 +569,7 @@ fn known_count(op: Operator, untyped: &Untyped, count: &Known) -> Untyped
     ensures { result ≡ spec_known_count op untyped.now (spec_is_int (spec_as_primitive count.now.of)) count.now.value }
 {
     if is_int(count.of.get()) {
-        untyped_shift(op, untyped, untyped.is_faulty, count.value)
+        untyped_shift(op, untyped, untyped.is_faulty, count.value.get())
     } else {
         untyped_misshift(untyped)
     }
@@ -680,7 +685,11 @@ pub fn applied(
         }
         Kind::Known(known) => {
             if takes(op, base_of(known.of.get())) {
-                return landed(&known.of, apply(op, value_outcome(known.value)), faults);
+                return landed(
+                    &known.of,
+                    apply(op, value_outcome(known.value.get())),
+                    faults,
+                );
             }
             report(faults, Code::T1)?;
             Ok(Kind::Faulty)

@@ -73,7 +73,7 @@ fn component_wanted(
     ensures faults { OnOk result (faults.new ≡ faults.old ++ (spec_component count of.now index.now).faults) }
 {
     match wanted(alloc, &int(alloc)?, index, faults)? {
-        Kind::Known(found) => component_at(count, of, found.value, faults),
+        Kind::Known(found) => component_at(count, of, found.value.get(), faults),
         _ => Ok(Kind::Faulty),
     }
 }
@@ -95,7 +95,7 @@ fn component(
     }
     match index {
         Kind::Known(found) if is_int(found.of.get()) => {
-            component_at(count, of, found.value, faults)
+            component_at(count, of, found.value.get(), faults)
         }
         _ => component_wanted(alloc, count, of, index, faults),
     }

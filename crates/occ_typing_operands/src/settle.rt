@@ -8,7 +8,7 @@ ghost use Rattle.occ_typing_operands.specs.declared.kind.Kind.TheVariants as k;
 use super::kind::{Kind, Known, TypedValue, Untyped, Wrong};
 use super::untyped_constant::UntypedConstant;
 use occ_base::{Code, Fault, Items, Shared, report};
-use occ_types::{OccType, Primitive, Value, base_of};
+use occ_types::{MaybeValue, OccType, Primitive, Value, base_of};
 use std::alloc::{AllocError, Global};
 
 /// INT, the type of an untyped operand of which none is wanted.
@@ -30,6 +30,14 @@ pub fn number(base: Option<Primitive>) -> Option<Primitive>
 
 /// A known operand.
 pub fn known(of: &Shared<OccType>, value: Option<Value>) -> Result<Kind, AllocError>
+    ensures { IfOk result (λ kind. kind ≡ spec_known of.now value) }
+{
+    known_as(of, MaybeValue::new(value))
+}
+
+/// The same, whose value is held as an operand holds it.
+#[inline(always)]
+pub fn known_as(of: &Shared<OccType>, value: MaybeValue) -> Result<Kind, AllocError>
     ensures { IfOk result (λ kind. kind ≡ spec_known of.now value) }
 {
     let of = of.share()?;
@@ -139,6 +147,6 @@ pub fn settled(
             let kind = settled_untyped(alloc, of, untyped, faults)?;
             Ok(faulty_if(untyped.is_faulty(), kind))
         }
-        Kind::Known(found) => known(&found.of, found.value),
+        Kind::Known(found) => known_as(&found.of, found.value),
     }
 }

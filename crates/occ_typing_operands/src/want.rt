@@ -6,7 +6,7 @@ ghost use Rattle.occ_typing_operands.specs.Wanting.{are_there, cast as spec_cast
 
 use super::kind::{Kind, Known, TypedValue};
 use super::outcome::outcome_of;
-use super::settle::{int, known, landed, settled};
+use super::settle::{int, known_as, landed, settled};
 use occ_base::{Code, Fault, Items, Shared, report};
 use occ_types::{OccType, Primitive, Value, alike, as_primitive, base_of, convert, fits};
 use std::alloc::{AllocError, Global};
@@ -32,7 +32,7 @@ pub fn fitted(
     match kind {
         Kind::Known(found) => {
             if fits(of.get(), found.of.get()) {
-                return known(&found.of, found.value);
+                return known_as(&found.of, found.value);
             }
             unfit(faults)
         }
@@ -104,7 +104,7 @@ fn converted_from(
     match kind {
         Kind::Known(found) => {
             if converts(to.get(), found.of.get()) {
-                return landed(to, cast(base_of(to.get()), found.value), faults);
+                return landed(to, cast(base_of(to.get()), found.value.get()), faults);
             }
             report(faults, Code::T2)?;
             Ok(Kind::Faulty)

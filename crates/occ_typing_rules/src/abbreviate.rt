@@ -8,7 +8,7 @@ ghost use Rattle.occ_types.specs.Fits.{fits};
 
 use occ_base::{Code, Fault, Items, Shared, report};
 use occ_types::{OccType, is_data};
-use occ_typing_operands::{Kind, known, mismatched};
+use occ_typing_operands::{Kind, known_as, mismatched};
 use occ_typing_tables::{Term, alone, merged, under};
 use std::alloc::{AllocError, Global};
 
@@ -63,7 +63,7 @@ fn as_type(alloc: Global, of: &Shared<OccType>, kind: &Kind) -> Result<Kind, All
     ensures { IfOk result (λ named. named ≡ (spec_as_type of.now kind.now).kind) }
 {
     match kind {
-        Kind::Known(found) => known(&filled(alloc, of, &found.of)?, found.value),
+        Kind::Known(found) => known_as(&filled(alloc, of, &found.of)?, found.value),
         _ => Ok(Kind::Faulty),
     }
 }

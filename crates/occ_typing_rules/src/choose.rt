@@ -105,7 +105,7 @@ fn chosen(
     ensures faults { OnOk result (faults.new ≡ faults.old ++ (spec_chosen before.old kind.now).faults) }
 {
     match kind {
-        Kind::Known(known) => option_of(alloc, known.value, before, faults),
+        Kind::Known(known) => option_of(alloc, known.value.get(), before, faults),
         _ => Ok(()),
     }
 }

@@ -10,7 +10,7 @@ ghost use Rattle.occ_typing_rules.specs.declared.expr.TypedExpr.TheVariants as t
 use super::expr::TypedExpr;
 use super::open_expr::OpenExpr;
 use occ_base::{Items, Shared, one_item};
-use occ_types::{OccType, Operator, Value, array_of, base_of};
+use occ_types::{MaybeValue, OccType, Operator, Value, array_of, base_of};
 use occ_typing_operands::{Known, TypedValue, UntypedConstant, number};
 use std::alloc::{AllocError, Global};
 
@@ -44,7 +44,10 @@ fn known_in(untyped: &UntypedConstant, of: &Shared<OccType>) -> Result<Known, Al
 {
     let value = value_in(untyped, of.get());
     let of = of.share()?;
-    Ok(Known { of, value })
+    Ok(Known {
+        of,
+        value: MaybeValue::new(value),
+    })
 }
 
 /// The tree, for all that share it.
@@ -112,7 +115,7 @@ fn placed_table(
     let array = OccType::Array(count_of(open_exprs.len()), component.share()?);
     let known = Known {
         of: Shared::new(alloc, array)?,
-        value: None,
+        value: MaybeValue::none(),
     };
     whole(alloc, TypedExpr::Table(known, trees))
 }

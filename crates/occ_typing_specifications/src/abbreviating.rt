@@ -11,7 +11,7 @@ use occ_expr::{root, target_of, type_form};
 use occ_expr_operations::{ElementReading, Opening};
 use occ_forms_expressions::{Element, TypeForm};
 use occ_scope::{Access, Meaning, Scope, ScopeEntry, Whole, one_entry};
-use occ_types::OccType;
+use occ_types::{MaybeValue, OccType};
 use occ_typing_operands::{Kind, known};
 use occ_typing_rules::TypedElement;
 use occ_typing_tables::merged;
@@ -101,7 +101,7 @@ fn element_name(
         Some(Meaning::Element(whole)) => Ok(Meaning::Element(Whole {
             of: known.of,
             access: Access::Variable,
-            value: None,
+            value: MaybeValue::none(),
             root: whole.root.copied(alloc)?,
         })),
         Some(Meaning::Faulty) => Ok(Meaning::Faulty),

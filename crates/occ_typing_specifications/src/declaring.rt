@@ -10,7 +10,7 @@ use occ_expr::type_form;
 use occ_expr_operations::Opening;
 use occ_forms_expressions::TypeForm;
 use occ_scope::{Access, Meaning, Scope, ScopeEntry, Scopes, Whole};
-use occ_types::OccType;
+use occ_types::{MaybeValue, OccType};
 use occ_typing_rules::repeated;
 use std::alloc::{AllocError, Global};
 
@@ -23,7 +23,7 @@ fn variable(alloc: Global, of: &Option<Shared<OccType>>, name: &Name) -> Result<
         Some(of) => Ok(Meaning::Element(Whole {
             of: of.share()?,
             access: Access::Variable,
-            value: None,
+            value: MaybeValue::none(),
             root: name.copied(alloc)?,
         })),
     }
@@ -67,7 +67,8 @@ fn variables(
 ) -> Result<Items<ScopeEntry>, AllocError>
     ensures { IfOk result (λ entries. entries ≡ spec_variables of.now (first.now ∷ more.now)) }
 {
-    let mut entries = Items::new(alloc);
+    let room = more.len().saturating_add(1);
+    let mut entries = Items::from_vec(Vec::with_capacity(alloc, room)?);
     push_variable(alloc, of, first, &mut entries)?;
     push_variables(alloc, of, more, &mut entries)?;
     Ok(entries)

@@ -74,7 +74,7 @@ fn detail_item(
             Ok(value_if(of))
         }
         Detail::Builtin(dims, following) => {
-            let of = word(alloc, dims.as_slice(), following, scope, faults)?;
+            let of = word(alloc, dims.as_slice(), following.get(), scope, faults)?;
             Ok(value_if(of))
         }
         Detail::CountedType(count, of) => counted_item(alloc, count, of, scope, faults),

@@ -5,7 +5,7 @@ ghost use Rattle.occ_typing_specifications.specs.Formals.{access_of as spec_acce
 use super::result_type::is_known;
 use occ_base::{Items, Name, Shared};
 use occ_scope::{Access, Meaning, ScopeEntry, Whole};
-use occ_types::{Formal, OccType, Passing};
+use occ_types::{Formal, MaybeValue, OccType, Passing};
 use std::alloc::{AllocError, Global};
 
 /// A formal of a head, and the type of its group, if that is known.
@@ -93,7 +93,7 @@ fn as_element(
         Some(of) => Ok(Meaning::Element(Whole {
             of: of.share()?,
             access: access_of(passing),
-            value: None,
+            value: MaybeValue::none(),
             root: name.copied(alloc)?,
         })),
     }

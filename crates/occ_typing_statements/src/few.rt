@@ -1,14 +1,15 @@
 //! Lists of which one item alone lies in place: most assignments have one target and one value, and no block is asked for them.
-ghost use Rattle.std.specs.Prelude.{◌≡◌, ◌∷◌, []};
+ghost use Rattle.std.specs.Prelude.{◌≡◌, ◌∷◌, [], IfOk};
 
-use occ_base::Items;
+use occ_base::{Boxed, Items};
+use std::alloc::{AllocError, Global};
 use std::marker::Model;
 
-/// What a list holds.
+/// What a list holds. A list that is no item alone has a box, so that one item is what has to have room.
 #[derive(Drop)]
 enum Held<T> {
     One([T; 1]),
-    Listed(Items<T>),
+    Listed(Boxed<Items<T>>),
 }
 
 /// A list that holds one item in place: in contracts the list.
@@ -39,22 +40,24 @@ impl<T> Few<T> {
         }
     }
 
-    /// The same list.
-    pub fn listed(items: Items<T>) -> Few<T>
-        ensures { result ≡ items }
-    {
-        Few {
-            held: Held::Listed(items),
-        }
-    }
-
     /// The items.
     pub fn as_slice(&self) -> &[T]
         ensures { result.now ≡ self.now }
     {
         match &self.held {
             Held::One(items) => items,
-            Held::Listed(items) => items.as_slice(),
+            Held::Listed(items) => items.get().as_slice(),
         }
+    }
+}
+
+impl<T: Drop> Few<T> {
+    /// The same list.
+    pub fn listed(alloc: Global, items: Items<T>) -> Result<Few<T>, AllocError>
+        ensures { IfOk result (λ few. few ≡ items) }
+    {
+        Ok(Few {
+            held: Held::Listed(Boxed::new(alloc, items)?),
+        })
     }
 }

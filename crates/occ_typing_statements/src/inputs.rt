@@ -95,8 +95,8 @@ fn plain_targets(
     ensures targets { IfOk result (λ targets. targets ≡ spec_received_trees (spec_items_received scope.now (first.now ∷ more.now))) }
     ensures faults { OnOk result (faults.new ≡ faults.old ++ (spec_received_faults (spec_items_received scope.now (first.now ∷ more.now)) ++ spec_received (carrier channel.now) root.now (spec_givens (spec_items_received scope.now (first.now ∷ more.now))))) }
 {
-    let all = nothing_received(alloc);
-    let all = items_received(alloc, slice::from_ref(first), all, scope, faults)?;
+    let none = nothing_received(alloc, more.len().saturating_add(1))?;
+    let all = items_received(alloc, slice::from_ref(first), none, scope, faults)?;
     let all = items_received(alloc, more, all, scope, faults)?;
     received(alloc, channel, root, all.givens.as_slice(), faults)?;
     Ok(all.trees)
@@ -244,7 +244,8 @@ fn tagged_targets(
     ensures targets { IfOk result (λ targets. targets ≡ spec_received_trees (spec_items_received scope.now items.now)) }
     ensures faults { OnOk result (faults.new ≡ faults.old ++ (spec_received_faults (spec_items_received scope.now items.now) ++ spec_exchanged (carrier channel.now) root.now (Some tag.now) (spec_givens (spec_items_received scope.now items.now)))) }
 {
-    let all = items_received(alloc, items, nothing_received(alloc), scope, faults)?;
+    let none = nothing_received(alloc, items.len())?;
+    let all = items_received(alloc, items, none, scope, faults)?;
     exchanged(
         alloc,
         channel,

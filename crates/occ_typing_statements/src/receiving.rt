@@ -131,15 +131,16 @@ pub struct ReceivedAll {
     pub trees: Option<Items<TypedTarget>>,
 }
 
-/// Nothing yet.
-pub fn nothing_received(alloc: Global) -> ReceivedAll
-    ensures givens { result.givens ≡ [] }
-    ensures trees { result.trees ≡ Some [] }
+/// Nothing yet, with room for so many: targets are large, and most inputs have one.
+pub fn nothing_received(alloc: Global, count: usize) -> Result<ReceivedAll, AllocError>
+    ensures givens { IfOk result (λ all. all.givens ≡ []) }
+    ensures trees { IfOk result (λ all. all.trees ≡ Some []) }
 {
-    ReceivedAll {
+    let trees = Items::from_vec(Vec::with_capacity(alloc, count)?);
+    Ok(ReceivedAll {
         givens: Items::new(alloc),
-        trees: Some(Items::new(alloc)),
-    }
+        trees: Some(trees),
+    })
 }
 
 /// One more.

@@ -10,6 +10,7 @@ use super::replicator_tree::{KnownReplicator, TypedReplicator};
 use occ_base::{Code, Fault, Items, Name, Shared};
 use occ_forms::Replicator;
 use occ_scope::{Access, Meaning, Scope, ScopeEntry, SpecId, Whole, one_entry};
+use occ_types::MaybeValue;
 use occ_typing_operands::{int, is_faulty};
 use occ_typing_rules::TypedExpr;
 use std::alloc::{AllocError, Global};
@@ -188,7 +189,7 @@ fn index(
     Ok(Meaning::Element(Whole {
         of: int(alloc)?,
         access: Access::Value,
-        value: None,
+        value: MaybeValue::none(),
         root: name.copied(alloc)?,
     }))
 }

@@ -60,7 +60,7 @@ fn constant(kind: &Kind) -> Option<i32>
     ensures { result ≡ spec_constant kind.now }
 {
     match kind {
-        Kind::Known(known) => int_value(known.value),
+        Kind::Known(known) => int_value(known.value.get()),
         Kind::Faulty => None,
         Kind::Untyped(_) => None,
     }

@@ -285,7 +285,7 @@ fn items_sent(
     ensures faults { OnOk result (faults.new ≡ faults.old ++ spec_sent_faults (spec_items_sent wanted.now items.now)) }
 {
     let mut givens = Items::new(alloc);
-    let mut trees = Some(Items::new(alloc));
+    let mut trees = Some(Items::from_vec(Vec::with_capacity(alloc, wanted.len())?));
     let mut items = items;
     for want in wanted {
         let Some((item, rest)) = items.split_first() else {
@@ -354,6 +354,9 @@ fn with_outputs(
     let Some((mut all, items)) = tag.zip(items) else {
         return Ok(None);
     };
+    if all.is_empty() {
+        return Ok(Some(items));
+    }
     all.append(items)?;
     Ok(Some(all))
 }

@@ -109,8 +109,8 @@ fn assignment_tree(
         return Ok(None);
     };
     Ok(Some(TypedAssignment {
-        targets: Few::listed(targets),
-        values: Few::listed(values),
+        targets: Few::listed(alloc, targets)?,
+        values: Few::listed(alloc, values)?,
     }))
 }
 

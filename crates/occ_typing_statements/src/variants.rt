@@ -114,8 +114,8 @@ pub fn variant(
     ensures input { OnOk result (input.new ≡ spec_with_tag input.old tag.now) }
     ensures faults { OnOk result (faults.new ≡ faults.old ++ spec_variant_faults scope.now input.old tag.now (first.now ++ more.now)) }
 {
-    let all = nothing_received(alloc);
-    let all = details_received(alloc, first, all, scope, faults)?;
+    let none = nothing_received(alloc, first.len().saturating_add(more.len()))?;
+    let all = details_received(alloc, first, none, scope, faults)?;
     let all = details_received(alloc, more, all, scope, faults)?;
     let place = alternative(
         alloc,

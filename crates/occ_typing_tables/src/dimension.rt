@@ -44,7 +44,7 @@ fn size_of_kind(kind: &Kind, faults: &mut Items<Fault>) -> Result<Option<u32>, A
     ensures faults { OnOk result (faults.new ≡ faults.old ++ (spec_size_of_kind kind.now).faults) }
 {
     match kind {
-        Kind::Known(found) => size_of_number(number_in(found.value), faults),
+        Kind::Known(found) => size_of_number(number_in(found.value.get()), faults),
         _ => Ok(None),
     }
 }

@@ -27,7 +27,7 @@ fn constant_of(kind: &Kind) -> Option<i64>
     ensures { result ≡ spec_constant_of kind.now }
 {
     match kind {
-        Kind::Known(found) => number_in(found.value),
+        Kind::Known(found) => number_in(found.value.get()),
         _ => None,
     }
 }

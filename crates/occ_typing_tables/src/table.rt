@@ -15,7 +15,7 @@ use super::placing::has_fault;
 use super::term::Term;
 use occ_base::{Code, Fault, Items, Name, Shared, report};
 use occ_types::{OccType, array_of, is_data};
-use occ_typing_operands::{Kind, fitted, int, is_faulty, known, settled, wanted};
+use occ_typing_operands::{Kind, fitted, int, is_faulty, known, known_as, settled, wanted};
 use std::alloc::{AllocError, Global};
 
 /// The one type of the items so far, with one item more.
@@ -251,7 +251,7 @@ fn single_alone(alloc: Global, kind: &Kind, faults: &mut Items<Fault>) -> Result
     match kind {
         Kind::Faulty => Ok(Kind::Faulty),
         Kind::Untyped(_) => settled(alloc, &int(alloc)?, kind, faults),
-        Kind::Known(found) => known(&found.of, found.value),
+        Kind::Known(found) => known_as(&found.of, found.value),
     }
 }
 

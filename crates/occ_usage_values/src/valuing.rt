@@ -99,21 +99,21 @@ pub fn value(expr: &TypedExpr, env: &[Bound]) -> Option<Value>
     ensures { result ≡ (expr_view expr.now).value env.now }
 {
     match expr {
-        TypedExpr::Literal(known) => known.value,
+        TypedExpr::Literal(known) => known.value.get(),
         TypedExpr::Element(element) => element_value(element, env),
-        TypedExpr::Operation(known, operator, operands) => match known.value {
+        TypedExpr::Operation(known, operator, operands) => match known.value.get() {
             Some(value) => Some(value),
             None => operation(*operator, operands.as_slice(), env),
         },
-        TypedExpr::Applied(known, operator, operand) => match known.value {
+        TypedExpr::Applied(known, operator, operand) => match known.value.get() {
             Some(value) => Some(value),
             None => one(*operator, value(operand.get(), env)),
         },
-        TypedExpr::Size(known, operand) => match known.value {
+        TypedExpr::Size(known, operand) => match known.value.get() {
             Some(value) => Some(value),
             None => size_value(size(operand.get(), env)),
         },
-        TypedExpr::Converted(known, operand) => match known.value {
+        TypedExpr::Converted(known, operand) => match known.value.get() {
             Some(value) => Some(value),
             None => converted(known.of.get(), value(operand.get(), env)),
         },
@@ -142,7 +142,7 @@ fn operation(operator: Operator, operands: &[Shared<TypedExpr>], env: &[Bound]) 
 fn element_value(element: &TypedElement, env: &[Bound]) -> Option<Value>
     ensures { result ≡ (element_view element.now).value env.now }
 {
-    match element.known.value {
+    match element.known.value.get() {
         Some(value) => Some(value),
         None => name_value(
             element.selectors.as_slice(),

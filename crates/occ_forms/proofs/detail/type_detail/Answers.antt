@@ -13,8 +13,8 @@ returns-in-Some-after_counted-clause-right c = counted_right _ _ _ _ _ (rw c.in-
 pub returns-in-Some-after_counted-clause-array : goal.returns-in-Some-after_counted-clause-array
 returns-in-Some-after_counted-clause-array c = array_right _ _ _ _ _ (rw c.in-Some.is at c.in_ok-form.ensures.only) c.in-Some-after_counted.ensures
 
-pub returns-in-Some-typed-clause-right : goal.returns-in-Some-typed-clause-right
-returns-in-Some-typed-clause-right c = typed_right _ _ _ _ (rw c.in-Some.is at c.in_ok-form.ensures.found) (rw c.in-Some.is at c.in_ok-form.ensures.only) c.in_default-after_counted.ensures (sym c.in-Some-typed.ensures)
+pub returns-in-Some-2-clause-right : goal.returns-in-Some-2-clause-right
+returns-in-Some-2-clause-right c = typed_right _ _ _ _ (rw c.in-Some.is at c.in_ok-form.ensures.found) (rw c.in-Some.is at c.in_ok-form.ensures.only) c.in_default-after_counted.ensures (sym (rw c.in-Some-2.is at c.in_ok-detail.ensures))
 
-pub returns-in-Some-typed-clause-array : goal.returns-in-Some-typed-clause-array
-returns-in-Some-typed-clause-array c d ds n k ends e = typed_right _ _ _ _ (rw c.in-Some.is at c.in_ok-form.ensures.found) (rw c.in-Some.is at c.in_ok-form.ensures.only) c.in_default-after_counted.ensures (sym c.in-Some-typed.ensures) (de.Array d ds n) k ends e
+pub returns-in-Some-2-clause-array : goal.returns-in-Some-2-clause-array
+returns-in-Some-2-clause-array c d ds n k ends e = typed_right _ _ _ _ (rw c.in-Some.is at c.in_ok-form.ensures.found) (rw c.in-Some.is at c.in_ok-form.ensures.only) c.in_default-after_counted.ensures (sym (rw c.in-Some-2.is at c.in_ok-detail.ensures)) (de.Array d ds n) k ends e

@@ -13,4 +13,4 @@ returns-clause-faults c =
     c.in_ok-all-2.ensures.faults
     c.in_ok-place.ensures.faults
     c.in_ok-report_repeated.ensures.faults
-    (c.as_slice.ensures ∙ c.in_ok-all-2.ensures.givens ∙ ap (λ (z : List Given). z ++ more) (c.in_ok-all.ensures.givens ∙ ap (λ (z : List Given). z ++ first) c.nothing_received-all.ensures.givens))
+    (c.as_slice.ensures ∙ c.in_ok-all-2.ensures.givens ∙ ap (λ (z : List Given). z ++ more) (c.in_ok-all.ensures.givens ∙ ap (λ (z : List Given). z ++ first) c.in_ok-none.ensures.givens))

@@ -1,9 +1,10 @@
-use Rattle.std.proofs.Common.{◌∙◌, ap, Some, ℕ}
-use Rattle.occ_base.specs.Numbers.{number_of}
-use Rattle.occ_base.proofs.Numbers.{number_is}
+use Rattle.std.proofs.Common.{◌∙◌, ap, Some, ℕ, arith}
+use Rattle.occ_base.proofs.Numbers.{number_filled}
+use Rattle.occ_base.proofs.Zeros.{long}
 use Rattle.occ_base.proofs.short.Short.number.Goals as goal
 
 pub returns : goal.returns
 returns c =
     let a = c.self.invariant in
-    ap (λ (n : ℕ). Some n) c.ended.ensures.value ∙ number_is c.self.inside.len c.self.inside.bytes c.if-self-gt15.false a.whole a.zeros c.ended.ensures.bytes ∙ ap number_of c.self.view_is
+    let m = long c.self.inside.len c.self.inside.bytes _ c.self.view_is (omega (arith, a.len, a.whole)) in
+    ap (λ (n : ℕ). Some n) c.ended.ensures.value ∙ number_filled _ _ _ c.filled.ensures.bytes m (omega (arith, a.len)) c.ended.ensures.bytes
