@@ -102,6 +102,9 @@ bool_sync = search sendable depth 20
 builtin_field_send : IsSend builtin.the_field.row
 builtin_field_send = tree.send-Builtin boxed.the_send primitive_word_cross.the_field_send channel_words_cross.the_field_send items.the_send data_base_cross.the_field_send name_send run_operator_cross.the_field_send pair_operator_cross.the_field_send monadic_operator_cross.the_field_send extreme_cross.the_field_send literal_cross.the_field_send bool_send
 
+builtin_send : IsSend builtin.the_row
+builtin_send = search (sendable, builtin_field_send) depth 10
+
 dimension_field_send : IsSend dimension.the_field.row
 dimension_field_send = tree.send-Dimension boxed.the_send primitive_word_cross.the_field_send channel_words_cross.the_field_send items.the_send data_base_cross.the_field_send name_send run_operator_cross.the_field_send pair_operator_cross.the_field_send monadic_operator_cross.the_field_send extreme_cross.the_field_send literal_cross.the_field_send bool_send
 
@@ -128,6 +131,9 @@ type_form_send = search (sendable, type_form_field_send) depth 10
 
 builtin_field_sync : IsSync builtin.the_field.row
 builtin_field_sync = tree.sync-Builtin boxed.the_sync primitive_word_cross.the_field_sync channel_words_cross.the_field_sync items.the_sync data_base_cross.the_field_sync name_sync run_operator_cross.the_field_sync pair_operator_cross.the_field_sync monadic_operator_cross.the_field_sync extreme_cross.the_field_sync literal_cross.the_field_sync bool_sync
+
+builtin_sync : IsSync builtin.the_row
+builtin_sync = search (sendable, builtin_field_sync) depth 10
 
 dimension_field_sync : IsSync dimension.the_field.row
 dimension_field_sync = tree.sync-Dimension boxed.the_sync primitive_word_cross.the_field_sync channel_words_cross.the_field_sync items.the_sync data_base_cross.the_field_sync name_sync run_operator_cross.the_field_sync pair_operator_cross.the_field_sync monadic_operator_cross.the_field_sync extreme_cross.the_field_sync literal_cross.the_field_sync bool_sync
@@ -298,13 +304,13 @@ part_field_sync : IsSync part.the_field.row
 part_field_sync = search (sendable, items.the_sync, Vec-sync, expr_field_sync, expr_sync, boxed.the_sync, guarded_sync) depth 30
 
 detail_field_send : IsSend detail.the_field.row
-detail_field_send = search (sendable, items.the_send, element_field_send, dimension_field_send, dimension_send, name_send, builtin_field_send, data_form_field_send) depth 30
+detail_field_send = search (sendable, items.the_send, element_field_send, dimension_field_send, dimension_send, name_send, boxed.the_send, builtin_send, data_form_field_send) depth 30
 
 detail_send : IsSend detail.the_row
 detail_send = search (sendable, detail_field_send) depth 10
 
 detail_field_sync : IsSync detail.the_field.row
-detail_field_sync = search (sendable, items.the_sync, element_field_sync, dimension_field_sync, dimension_sync, name_sync, builtin_field_sync, data_form_field_sync) depth 30
+detail_field_sync = search (sendable, items.the_sync, element_field_sync, dimension_field_sync, dimension_sync, name_sync, boxed.the_sync, builtin_sync, data_form_field_sync) depth 30
 
 detail_sync : IsSync detail.the_row
 detail_sync = search (sendable, detail_field_sync) depth 10
