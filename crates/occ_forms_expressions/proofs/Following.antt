@@ -28,9 +28,10 @@ use Rattle.occ_forms_expressions.proofs.Classes.{ExprAt, at_named, expr_at, run_
 use Rattle.occ_forms_expressions.proofs.Closings.{bounds_begins, closing_ends}
 use Rattle.occ_forms_expressions.proofs.Conversions.{widen}
 use Rattle.occ_forms_expressions.proofs.Lists.{after_same}
+use Rattle.occ_forms_expressions.proofs.Named.{element_found}
 use Rattle.occ_forms_expressions.proofs.Narrow.{narrow_of_table, narrow_parens}
 use Rattle.occ_forms_expressions.proofs.Operands.{OperandAt, after_no_index, after_no_open, at_bracket, at_call, at_decorated, at_element, at_literal, at_parens, at_truth, operand_at}
-use Rattle.occ_forms_expressions.proofs.Tailed.{end_after, tail_after}
+use Rattle.occ_forms_expressions.proofs.Tailed.{end_after, ended_found, ended_only, tail_after}
 use Rattle.occ_forms_expressions.proofs.Words.{BeginsNone, after_begins}
 
 pub subscript_found : (m n : List ℕ) (index : Expr) (more all : List Expr) (el : Element) (tokens rest : List Token) (result : Result (Option (Expr × Bor (List Token))) AllocError)
@@ -136,6 +137,23 @@ plain_name_all tokens rest n (Ok r) is none plain element call = λ z k b ends e
   by z k ends (after_element es x q f) = subst (λ (y : Expr). Reads r y k) (sym q) (element es x k ends f)
   by z k ends (after_call es x q f) = subst (λ (y : Expr). Reads r y k) (sym q) (call es x k ends f)
   by z k ends (after_type p o q narrows f) = of_operand k p o (begin_of rest) narrows refl (operand_at p k rest (begin_of rest) f refl)
+
+-- a name where operands end
+pub lone_name_found : (n : List ℕ) (none : List Expr) (tokens : List Token) → none ≡ [] → t.Name n ∷ tokens ≡ expr_then (xv.Alone (ov.Element (ev.Named n none))) tokens
+lone_name_found n none tokens is =
+    element_found n [] (ev.Named n none) tokens tokens (ap (λ (xs : List Expr). ev.Named n xs) is) refl ∙ ended_found (ov.Element (ev.Named n none)) tokens
+
+pub lone_name_only : (n : List ℕ) (none : List Expr) (tokens : List Token) → none ≡ [] → IsEndOfRun tokens
+    → (es : List Expr) (x : Tail) (k : List Token) → IsEndOfRun k → tokens ≡ many subscript_of es (tail_then x k)
+    → (xv.Alone (ov.Element (ev.Named n none)) ≡ joined (ov.Element (ev.Named n es)) x) × (tokens ≡ k)
+lone_name_only n none tokens is ended [] x k ends e =
+    let h = ended_only (ov.Element (ev.Named n [])) tokens ended x k ends e in
+    (ap (λ (xs : List Expr). xv.Alone (ov.Element (ev.Named n xs))) is ∙ h.0, h.1)
+lone_name_only n none tokens is ended (i ∷ es) x k ends e = absurd (after_no_index tokens (end_after tokens ended) _ e)
+
+pub lone_name_no_call : (tokens : List Token) → IsEndOfRun tokens → (es : List Expr) (k : List Token) → tokens ≡ arguments_of es k → ⊥
+lone_name_no_call tokens ended [] k e = after_no_open tokens (end_after tokens ended) _ e
+lone_name_no_call tokens ended (x ∷ es) k e = after_no_open tokens (end_after tokens ended) _ e
 
 -- subscripts and the tail after them fit after a bracket
 pub subscripts_fit : (es : List Expr) (x : Tail) (k : List Token) → IsEndOfRun k → IsNot s.Open (many subscript_of es (tail_then x k))

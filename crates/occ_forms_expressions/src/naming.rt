@@ -23,16 +23,16 @@ use super::bracket::{self, Closing};
 use super::conversion::{bracket_converted, name_converted};
 use super::list::subscripts;
 use super::operand::after_name;
-use super::tail::after_first;
+use super::tail::{after_first, ends_run};
 use super::token_reader::{after, name};
 use super::tree::{Element, Expr, Operand};
-use occ_base::{Name, one_item};
+use occ_base::{Items, Name, one_item};
 use occ_lines::{Symbol, Token};
 use std::alloc::{AllocError, Global};
 
 /// An expression that begins with a call, or with an element that has no subscript, of which the name is read.
-#[inline(always)]
-pub fn plain_name<'a, F: Fn(Global, &[Token]) -> Result<Option<(Expr, &[Token])>, AllocError>>(
+#[inline(never)]
+fn name_then<'a, F: Fn(Global, &[Token]) -> Result<Option<(Expr, &[Token])>, AllocError>>(
     alloc: Global,
     name: Name,
     tokens: &'a [Token],
@@ -48,6 +48,28 @@ pub fn plain_name<'a, F: Fn(Global, &[Token]) -> Result<Option<(Expr, &[Token])>
         return Ok(None);
     };
     after_first(alloc, first, rest, inner)
+}
+
+/// An expression that begins with a call, or with an element that has no subscript, of which the name is read. Most are
+/// the name alone.
+#[inline(always)]
+pub fn plain_name<'a, F: Fn(Global, &[Token]) -> Result<Option<(Expr, &[Token])>, AllocError>>(
+    alloc: Global,
+    name: Name,
+    tokens: &'a [Token],
+    inner: &F,
+) -> Result<Option<(Expr, &'a [Token])>, AllocError>
+    requires inner { ReadsExpr (length tokens.now) (F.pre inner.now) (F.post inner.now) }
+    ensures found { IfOk result (λ r. IfSome r (λ y. t.Name name ∷ tokens.now ≡ expr_then y.0 y.1.now)) }
+    ensures shorter { IfOk result (λ r. IfSome r (λ y. length y.1.now ≤ length tokens.now)) }
+    ensures element { IfOk result (λ r. (es : List AnExpr) (z : ATail) (k : List AToken) → IsEndOfRun k → tokens.now ≡ many subscript_of es (tail_then z k) → Reads r (joined (o.Element (e.Named name es)) z) k) }
+    ensures call { IfOk result (λ r. (es : List AnExpr) (z : ATail) (k : List AToken) → IsEndOfRun k → tokens.now ≡ arguments_of es (tail_then z k) → Reads r (joined (o.Call name es) z) k) }
+{
+    if ends_run(tokens) {
+        let element = Element::Named(name, Items::new(alloc));
+        return Ok(Some((Expr::Alone(Operand::Element(element)), tokens)));
+    }
+    name_then(alloc, name, tokens, inner)
 }
 
 /// An expression that begins with an element, of which the first subscript is read.
@@ -96,6 +118,7 @@ fn after_single(tokens: &[Token]) -> Option<&[Token]>
 
 /// An expression that begins with a name and brackets, which are read: the subscript of an element, or a conversion of
 /// what stands in the brackets.
+#[inline(never)]
 pub fn after_index<'a, F: Fn(Global, &[Token]) -> Result<Option<(Expr, &[Token])>, AllocError>>(
     alloc: Global,
     name: Name,
