@@ -1,4 +1,4 @@
--- Whether what lines use or specify may depend on a specification, each with those under it.
+-- Whether what lines use or specify may depend on the value of a specification, each with those under it.
 use Rattle.std.specs.Prelude.{ℕ, Bool, false, ◌||◌}
 use Rattle.occ_alias.specs.Naming.{form_depends}
 use Rattle.occ_usage.specs.Trees.{Empty, Tree, Trees}

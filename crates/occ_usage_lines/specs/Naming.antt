@@ -1,5 +1,6 @@
--- Whether what a line uses or specifies may depend on the value of a specification, without the lines under it: a subscript or a
--- bound in it names that, or it specifies a name that stands for what names it. Options, sizes and types are constants.
+-- Whether what a line uses or specifies may depend on the value of a specification. Lines under it are not asked. It may if a
+-- subscript or a bound of an element names the specification. So it may if the line specifies a name for what names it. Options,
+-- sizes and types are constants.
 use Rattle.std.specs.Prelude.{ℕ, Bool, false, ◌||◌, Option, Some, None, List, [], ◌∷◌}
 use Rattle.occ_usage_values.specs.Naming.{actuals_depend, element_depends, element_names, expr_depends, expr_names, exprs_depend}
 use Rattle.occ_typing_statements.specs.declared.replicator_tree.TypedReplicator.{TypedReplicator}

@@ -1,5 +1,5 @@
--- Whether an expression, an element, a selector or an actual names a specification: one of the elements in it is named by it.
--- What it uses may depend on its value only where a subscript or a bound in it names it.
+-- Whether an expression, an element, a selector or an actual names a specification: one of the elements in it is named by that.
+-- What an expression uses may depend on the value of a specification only where a subscript or a bound names that.
 use Rattle.std.specs.Prelude.{ℕ, ◌==◌, Bool, false, ◌||◌, List, [], ◌∷◌}
 use Rattle.occ_typing_rules.specs.declared.expr.Selector.{Selector}
 use Rattle.occ_typing_rules.specs.declared.expr.Selector.TheFolds.{fold-Selector, fold-TypedActual, fold-TypedElement, fold-TypedExpr}
@@ -16,11 +16,12 @@ pub record Naming : Type 0 where
 abbrev pub nothing : Naming
 nothing = record { names = false; depends = false }
 
--- one of these does
+-- what one of these names, or depends on
 abbrev pub either : List Naming → Naming
 either [] = nothing
 either (x ∷ xs) = record { names = x.names || (either xs).names; depends = x.depends || (either xs).depends }
 
+-- one of these is true
 abbrev pub some : List Bool → Bool
 some [] = false
 some (b ∷ bs) = b || some bs
@@ -36,7 +37,7 @@ abbrev pub actual_step : TypedActual-F Bool Naming Naming Naming → Naming
 actual_step (TypedActual-F.Value e) = e
 actual_step (TypedActual-F.Variable el) = el
 
--- of what has a size nothing is used
+-- an operand of SIZE is not used
 abbrev pub expr_step : TypedExpr-F Bool Naming Naming Naming → Naming
 expr_step (TypedExpr-F.Literal x) = nothing
 expr_step (TypedExpr-F.Element el) = el

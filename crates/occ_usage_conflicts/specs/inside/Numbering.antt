@@ -6,10 +6,11 @@ use Rattle.occ_types.specs.declared.interface.PartSelector.TheVariants as s
 use Rattle.occ_types.specs.declared.interface.Places.{Places}
 use Rattle.occ_types.specs.declared.interface.Places.TheVariants as places
 
+-- one number of two
 abbrev pub mixed : ℕ → ℕ → ℕ
 mixed seed more = (seed + more) % 2 ^ 64 * 11400714819323198485 % 2 ^ 64
 
--- of bytes, after these
+-- that of bytes, going on from a seed
 abbrev pub number_of_bytes : ℕ → List ℕ → ℕ
 number_of_bytes seed [] = seed
 number_of_bytes seed (b ∷ bs) = number_of_bytes (mixed seed b) bs
