@@ -68,12 +68,14 @@ impl<T: Drop> Stack<T> {
         Ok(())
     }
 
-    /// What lies on it, the top first.
-    pub fn into_items(self) -> Items<T>
-        ensures { result ≡ self }
+    /// What lies on it, the top first, in a list with the room that it needs.
+    pub fn into_items(mut self, alloc: Global) -> Result<Items<T>, AllocError>
+        ensures { IfOk result (λ items. items ≡ self) }
     {
-        let Stack { mut items } = self;
-        items.reverse();
-        Items::from_vec(items)
+        let mut items = Items::from_vec(Vec::with_capacity(alloc, self.items.len())?);
+        while let Some(item) = self.pop() {
+            items.push(item)?;
+        }
+        Ok(items)
     }
 }

@@ -57,6 +57,6 @@ pub fn shape(alloc: Global, lines: Items<ExpandedLine>) -> Result<Unit, ShapeFau
     if !faults.is_empty() {
         return Err(ShapeFault::Faults(faults));
     }
-    let roots = nest(alloc, lines)?.into_items();
+    let roots = nest(alloc, lines)?.into_items(alloc)?;
     Ok(Unit { roots })
 }

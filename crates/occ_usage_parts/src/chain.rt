@@ -171,7 +171,18 @@ impl Chain {
     }
 
     /// Those with a number below another.
+    #[inline(always)]
     pub fn below(&self, alloc: Global, bound: usize) -> Result<Chain, AllocError>
+        ensures { IfOk result (λ chain. chain ≡ filter (λ (k : ℕ). nat_lt k bound) self.now) }
+    {
+        if self.links.is_none() {
+            return Ok(Chain::none());
+        }
+        self.some_below(alloc, bound)
+    }
+
+    /// The same, number by number.
+    fn some_below(&self, alloc: Global, bound: usize) -> Result<Chain, AllocError>
         ensures { IfOk result (λ chain. chain ≡ filter (λ (k : ℕ). nat_lt k bound) self.now) }
     {
         let (shared, own) = self.parts();

@@ -1,6 +1,6 @@
 //! What is selected of a root, step by step: fields, subscripts, segments, and what is after RETYPES.
 ghost use Rattle.std.specs.Prelude.{◌≡◌, IfOk, OnOk, ◌++◌, ◌∷◌};
-ghost use Rattle.occ_usage_parts.specs.Selecting.{first_inside, followed, followed_by as spec_followed_by, named as spec_named, part_of, retyped as spec_retyped, segment_ending, selectors_of, whole as spec_whole, with_field as spec_with_field, with_segment as spec_with_segment, with_subscript as spec_with_subscript};
+ghost use Rattle.occ_usage_parts.specs.Selecting.{first_inside, followed as spec_followed, followed_by as spec_followed_by, named as spec_named, part_of, retyped as spec_retyped, segment_ending, selectors_of, whole as spec_whole, with_field as spec_with_field, with_segment as spec_with_segment, with_subscript as spec_with_subscript};
 
 use super::chain::Chain;
 use super::interval::{following, inside, segment, subscript};
@@ -141,15 +141,13 @@ impl SelectedPart {
     pub fn followed_by(&self, alloc: Global, selectors: &[PartSelector]) -> Result<Part, AllocError>
         ensures { IfOk result (λ part. part ≡ spec_followed_by self.now selectors.now) }
     {
-        let mut all = copies(alloc, self.selectors.as_slice())?;
-        match self.ending {
-            Ending::Plain => add_copies(alloc, selectors, &mut all)?,
-            Ending::Segment(outer, base) => add_inside(alloc, outer, base, selectors, &mut all)?,
-            Ending::Whole => {}
-        }
+        let selectors = match (self.selectors.as_slice(), self.ending) {
+            ([], Ending::Plain) => Selectors::of(alloc, selectors)?,
+            (before, ending) => Selectors::listed(followed(alloc, before, ending, selectors)?),
+        };
         Ok(Part {
             root: self.root,
-            selectors: Selectors::listed(all),
+            selectors,
         })
     }
 
@@ -181,6 +179,26 @@ fn ending_with(ending: Ending, base: Option<i32>, interval: Interval) -> Ending
         ),
         Ending::Whole => Ending::Whole,
     }
+}
+
+/// Selectors with an ending, and behind them those of a part of what they lead to.
+fn followed(
+    alloc: Global,
+    before: &[PartSelector],
+    ending: Ending,
+    selectors: &[PartSelector],
+) -> Result<Items<PartSelector>, AllocError>
+    ensures { IfOk result (λ all. all ≡ spec_followed before.now ending selectors.now) }
+{
+    let room = before.len().saturating_add(selectors.len()).saturating_add(1);
+    let mut all = Items::from_vec(Vec::with_capacity(alloc, room)?);
+    add_copies(alloc, before, &mut all)?;
+    match ending {
+        Ending::Plain => add_copies(alloc, selectors, &mut all)?,
+        Ending::Segment(outer, base) => add_inside(alloc, outer, base, selectors, &mut all)?,
+        Ending::Whole => {}
+    }
+    Ok(all)
 }
 
 /// Adds the interval of an ending segment.
