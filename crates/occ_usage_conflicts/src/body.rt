@@ -4,7 +4,8 @@ ghost use Rattle.occ_usage_conflicts.specs.Bodies.{body_uses as spec_body_uses, 
 ghost use Rattle.occ_usage_conflicts.specs.Distinct.{added};
 ghost use Rattle.occ_usage_conflicts.specs.inside.Linking.{IsLinked};
 
-use super::each_once::{Links, add};
+use super::each_once::{Links, add_new, bucket_of_new};
+use super::same::Candidate;
 use occ_base::Items;
 use occ_project::Location;
 use occ_usage_values::Use;
@@ -25,18 +26,26 @@ fn add_outside(
     ensures seen { OnOk result (seen.new ≡ (if nat_lt found.part.root locals then added (spec_from_outside number line.now found) seen.old else seen.old)) }
     ensures links { OnOk result (IsLinked links.new.heads.items links.new.before.items seen.new) }
 {
-    if found.part.root < locals {
-        let chain = found.chain.below(alloc, number)?;
-        let one = Use {
-            part: found.part,
-            kind: found.kind,
-            line: line.share()?,
-            chain,
-        };
-        add(one, links, seen)
-    } else {
-        Ok(())
+    if found.part.root >= locals {
+        return Ok(());
     }
+    let chain = found.chain.below(alloc, number)?;
+    let seen_from_outside = Candidate {
+        part: &found.part,
+        kind: found.kind,
+        line,
+        chain: &chain,
+    };
+    let Some(bucket) = bucket_of_new(&seen_from_outside, links, seen.as_slice()) else {
+        return Ok(());
+    };
+    let one = Use {
+        part: found.part,
+        kind: found.kind,
+        line: line.share()?,
+        chain,
+    };
+    add_new(one, bucket, links, seen)
 }
 
 /// The uses of a body, each once, as they are seen from outside: so many specifications stand round it, and its own have

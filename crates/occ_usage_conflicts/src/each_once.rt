@@ -1,11 +1,11 @@
 //! The uses of a list, each once, found by buckets: for each bucket its last use, and for each use the one before it.
-ghost use Rattle.std.specs.Prelude.{◌≡◌, ◌<◌, ◌+◌, ◌++◌, ◌∷◌, [], IfOk, OnOk, length, slice_get, slice_set};
+ghost use Rattle.std.specs.Prelude.{◌≡◌, ◌<◌, ◌+◌, ◌++◌, ◌∷◌, [], false, true, IfOk, MatchOption, OnOk, length, slice_get, slice_set};
 ghost use Rattle.occ_usage_conflicts.specs.inside.Numbering.{bucket_of as spec_bucket_of};
 ghost use Rattle.occ_usage_conflicts.specs.Distinct.{added, distinct as spec_distinct, is_among};
 ghost use Rattle.occ_usage_conflicts.specs.inside.Linking.{IsLinked, is_use, linked as spec_linked};
 
 use super::numbering::bucket_of;
-use super::same::same_use;
+use super::same::{Candidate, same_use};
 use occ_base::Items;
 use occ_usage_values::Use;
 use std::alloc::{AllocError, Global};
@@ -58,7 +58,7 @@ fn linked(numbers: &[usize], place: usize) -> usize
 
 /// Whether a use stands at a place.
 #[inline(always)]
-fn is_at(found: &[Use], place: usize, one: &Use) -> bool
+fn is_at(found: &[Use], place: usize, one: &Candidate<'_>) -> bool
     ensures { result ≡ is_use one.now (slice_get found.now place) }
 {
     match found.get(place) {
@@ -69,7 +69,7 @@ fn is_at(found: &[Use], place: usize, one: &Use) -> bool
 
 /// The bucket of a use.
 #[inline(always)]
-fn bucket_in(one: &Use, links: &Links) -> usize
+fn bucket_in(one: &Candidate<'_>, links: &Links) -> usize
     requires { 0 < length links.now.heads.items }
     ensures value { result ≡ spec_bucket_of one.now (length links.now.heads.items) }
     ensures within { result < length links.now.heads.items }
@@ -79,7 +79,7 @@ fn bucket_in(one: &Use, links: &Links) -> usize
 
 /// Whether a use, which belongs in this bucket, is found already.
 #[inline(always)]
-fn is_found(one: &Use, bucket: usize, links: &Links, found: &[Use]) -> bool
+fn is_found(one: &Candidate<'_>, bucket: usize, links: &Links, found: &[Use]) -> bool
     requires linked { IsLinked links.now.heads.items links.now.before.items found.now }
     requires bucket { bucket ≡ spec_bucket_of one.now (length links.now.heads.items) }
     ensures { result ≡ is_among found.now one.now }
@@ -94,19 +94,48 @@ fn is_found(one: &Use, bucket: usize, links: &Links, found: &[Use]) -> bool
     false
 }
 
+/// The bucket of a use, if it is not among those that are found.
+#[inline(always)]
+pub(crate) fn bucket_of_new(one: &Candidate<'_>, links: &Links, found: &[Use]) -> Option<usize>
+    requires { IsLinked links.now.heads.items links.now.before.items found.now }
+    ensures { MatchOption result (is_among found.now one.now ≡ true) (λ bucket. (is_among found.now one.now ≡ false) × (bucket ≡ spec_bucket_of one.now (length links.now.heads.items)) × (bucket < length links.now.heads.items)) }
+{
+    let bucket = bucket_in(one, links);
+    if is_found(one, bucket, links, found) {
+        return None;
+    }
+    Some(bucket)
+}
+
+/// One use more, of this bucket.
+#[inline(always)]
+pub(crate) fn add_new(
+    one: Use,
+    bucket: usize,
+    links: &mut Links,
+    found: &mut Items<Use>,
+) -> Result<(), AllocError>
+    requires linked { IsLinked links.old.heads.items links.old.before.items found.old }
+    requires bucket { bucket ≡ spec_bucket_of one (length links.old.heads.items) }
+    requires within { bucket < length links.old.heads.items }
+    ensures found { OnOk result (found.new ≡ found.old ++ one ∷ []) }
+    ensures links { OnOk result (IsLinked links.new.heads.items links.new.before.items found.new) }
+{
+    links.note(bucket, found.len())?;
+    found.push(one)
+}
+
 /// One use more, if it is not among those that are found.
 #[inline(always)]
-pub(crate) fn add(one: Use, links: &mut Links, found: &mut Items<Use>) -> Result<(), AllocError>
+fn add(one: Use, links: &mut Links, found: &mut Items<Use>) -> Result<(), AllocError>
     requires { IsLinked links.old.heads.items links.old.before.items found.old }
     ensures found { OnOk result (found.new ≡ added one found.old) }
     ensures links { OnOk result (IsLinked links.new.heads.items links.new.before.items found.new) }
 {
-    let bucket = bucket_in(&one, links);
-    if is_found(&one, bucket, links, found.as_slice()) {
-        return Ok(());
+    match bucket_of_new(&Candidate::of(&one), links, found.as_slice()) {
+        None => Ok(()),
+        Some(bucket) => add_new(one, bucket, links, found),
     }
-    links.note(bucket, found.len())?;
-    found.push(one)
 }
 
 /// The uses, each once, the last of them first.

@@ -2,8 +2,8 @@
 ghost use Rattle.std.specs.Prelude.{◌≡◌, ◌<◌};
 ghost use Rattle.occ_usage_conflicts.specs.inside.Numbering.{bucket_of as spec_bucket_of, mixed as spec_mixed, number_of as spec_number_of, number_of_bytes, number_of_places, number_of_selector, with_selectors as spec_with_selectors};
 
+use super::same::Candidate;
 use occ_types::{PartSelector, Places};
-use occ_usage_values::Use;
 
 /// One number of two.
 fn mixed(seed: u64, more: u64) -> u64
@@ -55,7 +55,7 @@ fn with_selectors(seed: u64, selectors: &[PartSelector]) -> u64
 }
 
 #[inline(always)]
-fn number_of(one: &Use) -> u64
+fn number_of(one: &Candidate<'_>) -> u64
     ensures { result ≡ spec_number_of one.now }
 {
     let seed = mixed(mixed(0, one.part.root as u64), u64::from(one.line.line));
@@ -64,7 +64,7 @@ fn number_of(one: &Use) -> u64
 
 /// Which of so many lists is that of a use. Each of them is one only where so many is a power of two.
 #[inline(always)]
-pub(crate) fn bucket_of(one: &Use, count: usize) -> usize
+pub(crate) fn bucket_of(one: &Candidate<'_>, count: usize) -> usize
     requires { 0 < count }
     ensures value { result ≡ spec_bucket_of one.now count }
     ensures within { result < count }

@@ -3,8 +3,11 @@ ghost use Rattle.std.specs.Prelude.{◌≡◌};
 ghost use Rattle.occ_usage_conflicts.specs.Distinct.{same_mark as spec_same_mark, same_places as spec_same_places, same_selector as spec_same_selector, same_selectors as spec_same_selectors, same_use as spec_same_use};
 ghost use Rattle.occ_usage_conflicts.specs.Kinds.{same_kind as spec_same_kind};
 
+use occ_project::Location;
 use occ_types::{Mark, PartSelector, Places, UseKind};
+use occ_usage_parts::{Chain, Part};
 use occ_usage_values::Use;
+use std::marker::Model;
 
 fn same_mark(a: Mark, b: Mark) -> bool
     ensures { result ≡ spec_same_mark a b }
@@ -69,15 +72,46 @@ pub(crate) fn same_selectors(a: &[PartSelector], b: &[PartSelector]) -> bool
     true
 }
 
+/// A use of which the parts lie apart, to be looked for among others: in contracts the use.
+pub(crate) struct Candidate<'a> {
+    pub part: &'a Part,
+    pub kind: UseKind,
+    pub line: &'a Location,
+    pub chain: &'a Chain,
+}
+
+impl<'a> Model for Candidate<'a> {
+    ghost use Rattle.occ_usage_values.specs.declared.uses.Use.{Use};
+
+    ghost Value = { Use };
+
+    ghost view = { λ one. record { part = one.part.now; kind = one.kind; line = one.line.now; chain = one.chain.now } };
+}
+
+impl<'a> Candidate<'a> {
+    /// This use.
+    #[inline(always)]
+    pub(crate) fn of(one: &'a Use) -> Candidate<'a>
+        ensures { result ≡ one.now }
+    {
+        Candidate {
+            part: &one.part,
+            kind: one.kind,
+            line: &one.line,
+            chain: &one.chain,
+        }
+    }
+}
+
 /// Whether two uses are one.
 #[inline(always)]
-pub(crate) fn same_use(a: &Use, b: &Use) -> bool
+pub(crate) fn same_use(a: &Use, b: &Candidate<'_>) -> bool
     ensures { result ≡ spec_same_use a.now b.now }
 {
     a.part.root == b.part.root
         && same_kind(a.kind, b.kind)
         && a.line.line == b.line.line
         && same_selectors(a.part.selectors.as_slice(), b.part.selectors.as_slice())
-        && a.chain.is_same(&b.chain)
+        && a.chain.is_same(b.chain)
         && *a.line.file.get() == *b.line.file.get()
 }
