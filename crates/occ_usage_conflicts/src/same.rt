@@ -73,6 +73,7 @@ pub(crate) fn same_selectors(a: &[PartSelector], b: &[PartSelector]) -> bool
 }
 
 /// A use of which the parts lie apart, to be looked for among others: in contracts the use.
+#[derive(Drop)]
 pub(crate) struct Candidate<'a> {
     pub part: &'a Part,
     pub kind: UseKind,
