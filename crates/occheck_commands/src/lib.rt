@@ -10,6 +10,6 @@ mod text;
 
 pub use command::Command;
 pub use first::{First, Lines, first_command, skip_blank};
-pub use lines::line_ends;
+pub use lines::lines_lacking;
 pub use script::{Next, Rest, is_cut_short, next_command};
 pub use text::{LIMIT, ScriptText, closed, ended_length, whole_text};

@@ -1,7 +1,7 @@
-//! How far it is to a byte, such as the end of a line or a word; how many lines end.
+//! How far it is to a byte, such as the end of a line or a word; how many lines have to end yet.
 ghost use Rattle.occheck_commands.specs.Lines.{feeds};
 ghost use Rattle.std.specs.List.{position, position_or_len};
-ghost use Rattle.std.specs.Prelude.{◌≡◌, ◌≤◌, ◌==◌, length};
+ghost use Rattle.std.specs.Prelude.{◌≡◌, ◌≤◌, ◌==◌, ◌-◌, length};
 
 use memchr::memchr;
 
@@ -22,16 +22,19 @@ fn place_of(bytes: &[u8], byte: u8) -> Option<usize>
     memchr(byte, bytes)
 }
 
-/// How many lines end in these bytes.
-pub fn line_ends(bytes: &[u8]) -> usize
-    ensures { result ≡ feeds bytes.now }
+/// How many of so many lines do not end in these bytes.
+pub fn lines_lacking(bytes: &[u8], lines: usize) -> usize
+    ensures { result ≡ lines - feeds bytes.now }
 {
-    let mut count = 0;
+    let mut lacking = lines;
     let mut left = bytes;
-    while let Some(place) = place_of(left, b'\n') {
+    while lacking > 0 {
+        let Some(place) = place_of(left, b'\n') else {
+            break;
+        };
         let (_, following) = left.split_at(place + 1);
         left = following;
-        count += 1;
+        lacking -= 1;
     }
-    count
+    lacking
 }

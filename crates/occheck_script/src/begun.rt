@@ -5,7 +5,7 @@ ghost use Rattle.occheck_script.specs.inside.Begun.{IsBegun};
 ghost use Rattle.occheck_script.specs.inside.Going.{IsRefusedIn};
 ghost use Rattle.std.specs.Prelude.{◌≡◌, ◌≤◌, ◌<◌, ◌+◌, ◌^◌, ◌++◌, Bool, List, OnErr, OnOk, [], drop, length, ℕ};
 
-use occheck_commands::{Lines, line_ends, skip_blank};
+use occheck_commands::{Lines, lines_lacking, skip_blank};
 use std::alloc::{AllocError, Global};
 
 /// What was read of a script and is not answered.
@@ -56,7 +56,7 @@ impl Begun {
         let added = self.without_blank(piece);
         match self.bytes.extend_from_slice(added) {
             Ok(()) => {
-                self.lacks = self.lacks.saturating_sub(line_ends(added));
+                self.lacks = lines_lacking(added, self.lacks);
                 Ok(())
             }
             Err(refused) => Err(refused),

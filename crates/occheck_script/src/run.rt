@@ -22,7 +22,7 @@ use std::alloc::Global;
 use std::mem;
 
 /// How many bytes are asked for at once, at most.
-const PIECE: usize = 65_536;
+const PIECE: usize = 131_072;
 
 /// Runs a script: answers each command as soon as it lies whole in what was read, and has written its answer before it asks for
 /// more. What it keeps is the board, part of a command, and answers of one piece.
