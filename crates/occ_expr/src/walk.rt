@@ -207,12 +207,12 @@ fn operand(
         Operand::Truth(value) => truth_operand(alloc, *value),
         Operand::Parens(expr) => expression(alloc, expr.get(), scope, faults),
         Operand::Table(first, more) => {
-            let mut items = first_item(alloc, first.get(), more.len(), scope, faults)?;
+            let mut items = first_item(alloc, first.get(), scope, faults)?;
             more_items(alloc, more.as_slice(), scope, &mut items, faults)?;
             Ok(table_reading(items))
         }
         Operand::DecoratedTable(first, more, of) => {
-            let mut items = first_item(alloc, first.get(), more.len(), scope, faults)?;
+            let mut items = first_item(alloc, first.get(), scope, faults)?;
             more_items(alloc, more.as_slice(), scope, &mut items, faults)?;
             let to = type_form(alloc, of.get(), Opening::Refused, scope, faults)?;
             decorated_reading(alloc, items, to, faults)
@@ -474,15 +474,14 @@ fn named_operand(
         }
         NamedOperand::Truth(value) => truth_operand(alloc, *value),
         NamedOperand::Table(first, second, more) => {
-            let room = more.len().saturating_add(1);
-            let mut items = first_item(alloc, first.get(), room, scope, faults)?;
+            let mut items = first_item(alloc, first.get(), scope, faults)?;
             let second = expression(alloc, second.get(), scope, faults)?;
             items.push(second)?;
             more_items(alloc, more.as_slice(), scope, &mut items, faults)?;
             Ok(table_reading(items))
         }
         NamedOperand::DecoratedTable(first, more, of) => {
-            let mut items = first_item(alloc, first.get(), more.len(), scope, faults)?;
+            let mut items = first_item(alloc, first.get(), scope, faults)?;
             more_items(alloc, more.as_slice(), scope, &mut items, faults)?;
             let to = type_form(alloc, of.get(), Opening::Refused, scope, faults)?;
             decorated_reading(alloc, items, to, faults)
@@ -523,12 +522,11 @@ fn decorated_reading(
     })
 }
 
-/// The first item of a table, with room for so many more.
+/// The first item of a table.
 #[cycle(walk)]
 fn first_item(
     alloc: Global,
     expr: &Expr,
-    more: usize,
     scope: &Scope,
     faults: &mut Items<Fault>,
 ) -> Result<Readings, AllocError>
@@ -537,9 +535,7 @@ fn first_item(
     ensures faults { OnOk result (faults.new ≡ faults.old ++ ((expr_view expr.now).said scope.now).faults) }
 {
     let item = expression(alloc, expr, scope, faults)?;
-    let mut items = Readings::with_room(alloc, more.saturating_add(1))?;
-    items.push(item)?;
-    Ok(items)
+    Readings::one(alloc, item)
 }
 
 /// More items of a table.
@@ -572,7 +568,7 @@ fn arguments(
 ) -> Result<(), AllocError>
     ensures { OnOk result (faults.new ≡ faults.old ++ (own_faults (in_scope scope.now (expr_views exprs.now)) ++ hidden_faults (judged_all (spec_terms (in_scope scope.now (expr_views exprs.now)))))) }
 {
-    let mut readings = Readings::with_room(alloc, exprs.len())?;
+    let mut readings = Readings::new(alloc);
     more_items(alloc, exprs, scope, &mut readings, faults)?;
     report_hidden(alloc, readings.terms.as_slice(), faults)
 }
@@ -607,7 +603,7 @@ pub fn actuals(
     ensures open_exprs { IfOk result (λ r. r.1 ≡ spec_item_opens scope.now (expr_views exprs.now)) }
     ensures faults { OnOk result (faults.new ≡ faults.old ++ (spec_actuals formals.now (in_scope scope.now (expr_views exprs.now))).faults) }
 {
-    let mut readings = Readings::with_room(alloc, exprs.len())?;
+    let mut readings = Readings::new(alloc);
     more_items(alloc, exprs, scope, &mut readings, faults)?;
     let is_faulty = matched(alloc, formals, readings.terms.as_slice(), faults)?;
     Ok((is_faulty, readings.open_exprs))
