@@ -7,7 +7,7 @@ abbrev pub invariant-loop-room : goal.invariant-loop-room
 invariant-loop-room g l = record {
   begun : IsBegun l.begun;
   lacks : 0 < l.begun.lacks;
-  piece : length l.piece ≡ 65536;
+  piece : length l.piece ≡ 131072;
   line : l.begun.line + length l.begun.bytes.items + l.room ≤ 67108865;
   reader : g.R.ByteIn.has_failed l.reader ≡ false;
   writer : g.W.ByteOut.has_failed l.writer ≡ false;

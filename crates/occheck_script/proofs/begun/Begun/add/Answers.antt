@@ -8,8 +8,8 @@ use Rattle.occheck_script.proofs.begun.Begun.add.Goals as goal
 
 pub returns-in-Ok-clause-begun : goal.returns-in-Ok-clause-begun
 returns-in-Ok-clause-begun c =
-    is_begun_more _ c.without_blank-added.new.self.bytes.items c.without_blank-added.result.now c.without_blank-added.new.self.line c.without_blank-added.new.self.lacks c.lines_lacking.result c.without_blank-added.ensures.begun.lacking
-    (subst (λ x. IsNoFeed (x.items ++ c.without_blank-added.result.now)) (sym c.without_blank-added.ensures.bytes) c.without_blank-added.ensures.begins) c.in-Ok.ensures.items refl c.lines_lacking.ensures refl
+    is_begun_more _ c.without_blank-added.new.self.bytes.items c.without_blank-added.result.now c.without_blank-added.new.self.line c.without_blank-added.new.self.lacks c.lines_lacking-self.result c.without_blank-added.ensures.begun.lacking
+    (subst (λ x. IsNoFeed (x.items ++ c.without_blank-added.result.now)) (sym c.without_blank-added.ensures.bytes) c.without_blank-added.ensures.begins) c.in-Ok.ensures.items refl c.lines_lacking-self.ensures refl
 
 pub returns-in-Ok-clause-same : goal.returns-in-Ok-clause-same
 returns-in-Ok-clause-same c = λ over more.
