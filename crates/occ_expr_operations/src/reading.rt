@@ -79,6 +79,7 @@ impl Readings {
     }
 
     /// Of one expression more.
+    #[inline(always)]
     pub fn push(&mut self, next: Reading) -> Result<(), AllocError>
         ensures terms { OnOk result (self.new.terms ≡ self.old.terms ++ next.term ∷ []) }
         ensures open_exprs { OnOk result (self.new.open_exprs ≡ self.old.open_exprs ++ next.open_expr ∷ []) }

@@ -59,6 +59,7 @@ fn place_in(
 }
 
 /// The component at a place in a value of this type.
+#[inline(always)]
 pub fn component_at(
     alloc: Global,
     place: &OpenExpr,
@@ -101,6 +102,7 @@ pub fn field_selector(
 }
 
 /// One selector more, if all are there.
+#[inline(always)]
 pub fn with_selector(
     selectors: Option<Items<Selector>>,
     next: Option<Selector>,

@@ -4,3 +4,4 @@ pub mod Lines
 pub mod Classes
 pub mod Details
 pub mod Received
+pub mod Words

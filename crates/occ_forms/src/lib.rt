@@ -34,6 +34,7 @@ mod start;
 mod tree;
 mod typed;
 mod value;
+mod words;
 
 pub use laws::{one_form_law, source_law};
 pub use parse::{LineFault, form};

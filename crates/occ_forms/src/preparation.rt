@@ -4,17 +4,19 @@ ghost use Rattle.occ_forms.specs.declared.source.SourceLine.{SourceLine as ASour
 ghost use Rattle.occ_lines.specs.Lines.{line_count};
 ghost use Rattle.occ_lines.specs.Listing.{listed as spec_listed};
 ghost use Rattle.occ_lines.specs.declared.text.Body.TheVariants as body;
-ghost use Rattle.std.specs.Prelude.{IfOk, IsErrOf, List, length, ◌↔◌, ◌≡◌, ◌≤◌, ◌<◌};
+ghost use Rattle.occ_lines.specs.declared.token.Token.TheVariants as token;
+ghost use Rattle.std.specs.Prelude.{IfOk, IsErrOf, List, [], length, ◌↔◌, ◌≡◌, ◌≤◌, ◌<◌, ◌∷◌};
 
 use super::laws::source_law;
 use super::parse::{LineFault, form};
 use super::source::{LineBody, Source, SourceLine};
+use super::words::{WordForm, form_among};
 use occ_base::{Code, FileName, Items, Shared};
-use occ_lines::{Body, Logical, Sink, TextFault, Token, listed, read_lines};
+use occ_lines::{Body, Logical, Sink, TextFault, Token, Word, listed, read_lines};
 use std::alloc::{AllocError, Global};
 
 /// What a line of these tokens holds: their form, or its fault.
-fn formed(alloc: Global, tokens: &[Token]) -> Result<LineBody, AllocError>
+fn formed_alone(alloc: Global, tokens: &[Token]) -> Result<LineBody, AllocError>
     ensures { IfOk result (λ found. IsFormed (body.Tokens tokens.now) found) }
 {
     match form(alloc, tokens) {
@@ -25,15 +27,49 @@ fn formed(alloc: Global, tokens: &[Token]) -> Result<LineBody, AllocError>
     }
 }
 
+/// The same of a line of one word, whose form later lines of the word share.
+fn formed_of_word(
+    alloc: Global,
+    word: Word,
+    tokens: &[Token],
+    words: &mut Items<WordForm>,
+) -> Result<LineBody, AllocError>
+    requires { tokens.now ≡ token.Word word ∷ [] }
+    ensures { IfOk result (λ found. IsFormed (body.Tokens tokens.now) found) }
+{
+    if let Some(form) = form_among(words.as_slice(), word) {
+        return Ok(LineBody::Form(form.share()?));
+    }
+    let held = formed_alone(alloc, tokens)?;
+    if let LineBody::Form(form) = &held {
+        words.push(WordForm::new(word, form.share()?))?;
+    }
+    Ok(held)
+}
+
+/// What a line of these tokens holds. Lines of one word share its form.
+fn formed(
+    alloc: Global,
+    tokens: &[Token],
+    words: &mut Items<WordForm>,
+) -> Result<LineBody, AllocError>
+    ensures { IfOk result (λ found. IsFormed (body.Tokens tokens.now) found) }
+{
+    match tokens {
+        [Token::Word(word)] => formed_of_word(alloc, *word, tokens, words),
+        _ => formed_alone(alloc, tokens),
+    }
+}
+
 /// What a line holds: the form of its tokens, or its fault.
-fn line_body(alloc: Global, body: Body) -> Result<LineBody, AllocError>
+fn line_body(alloc: Global, body: Body, words: &mut Items<WordForm>) -> Result<LineBody, AllocError>
     ensures { IfOk result (λ found. IsFormed body found) }
 {
     match body {
         Body::Fault(fault) => Ok(LineBody::Fault(fault)),
         Body::Include(name) => Ok(LineBody::Include(name)),
         Body::Uses(name, list) => Ok(LineBody::Uses(name, list)),
-        Body::Tokens(tokens) => formed(alloc, tokens.as_slice()),
+        Body::Tokens(tokens) => formed(alloc, tokens.as_slice(), words),
     }
 }
 
@@ -42,6 +78,8 @@ fn line_body(alloc: Global, body: Body) -> Result<LineBody, AllocError>
 struct Forming {
     alloc: Global,
     lines: Items<SourceLine>,
+    /// The forms of lines of one word that came up.
+    words: Items<WordForm>,
 }
 
 impl Sink for Forming {
@@ -49,7 +87,7 @@ impl Sink for Forming {
 
     fn take(&mut self, logical: Logical) -> Result<(), AllocError> {
         let Logical { line, depth, body } = logical;
-        let body = line_body(self.alloc, body)?;
+        let body = line_body(self.alloc, body, &mut self.words)?;
         self.lines.push(SourceLine { line, depth, body })?;
         Ok(())
     }
@@ -61,10 +99,17 @@ fn formed_lines(alloc: Global, text: &[u8]) -> Result<Items<SourceLine>, TextFau
     ensures large { IsErrOf result TextFault.TooLarge ↔ (262144 < length text.now) }
     ensures many { IsErrOf result TextFault.TooManyLines ↔ ((length text.now ≤ 262144) × (16384 < line_count text.now)) }
 {
-    let lines = Items::new(alloc);
-    let mut formed = Forming { alloc, lines };
+    let mut formed = Forming {
+        alloc,
+        lines: Items::new(alloc),
+        words: Items::new(alloc),
+    };
     read_lines(alloc, text, &mut formed)?;
-    let Forming { alloc: _, lines } = formed;
+    let Forming {
+        alloc: _,
+        lines,
+        words: _,
+    } = formed;
     Ok(lines)
 }
 

@@ -37,6 +37,7 @@ pub fn found_in<T: Copy>(table: &[(&[u8], T)], bytes: &[u8]) -> Option<T>
 
 /// What one byte is as a symbol, if it spells one.
 #[tactic(auto, unfolding(crate::specs::Lexeme::symbol_row))]
+#[inline(always)]
 fn mark(byte: u8) -> Option<Symbol>
     ensures { result ≡ spec_symbol_row (byte ∷ []) }
 {
