@@ -565,6 +565,31 @@ impl Graph {
         Ok(alike)
     }
 
+    /// The same of a file that at most one unit reads, itself for the most part, where it may be open as it was not.
+    fn set_unread(&mut self, alloc: Global, index: usize, file: &Read) -> Result<bool, AllocError>
+        requires { spec_index file.now.name self.old ≡ Some index }
+        ensures ok { IfOk result (λ done. done ≡ true → self.new ≡ put self.old file.now) }
+        ensures other { IfOk result (λ done. done ≡ false → self.new ≡ self.old) }
+        ensures err { OnErr result (self.new ≡ self.old) }
+    {
+        let _files = self.project.files();
+        let readers = self.readers(alloc, index)?;
+        if readers.len() > 1 {
+            return Ok(false);
+        }
+        let again = Shared::new(alloc, share(file)?)?;
+        self.lacking = None;
+        let done = renew(
+            alloc,
+            &mut self.project,
+            &mut self.facts,
+            index,
+            readers.as_slice(),
+            again,
+        )?;
+        Ok(done)
+    }
+
     /// Puts a file in the place of the one at an index, and expands its readers anew. It says whether who uses whom is known to be as
     /// before, and the file is open as before.
     pub fn set(&mut self, alloc: Global, index: usize, file: Read) -> Result<bool, AllocError>
@@ -573,11 +598,25 @@ impl Graph {
         ensures alike { IfOk result (λ alike. alike ≡ true → AreAlike self.old self.new) }
         ensures err { OnErr result (self.new ≡ self.old) }
     {
-        let is_open = self.is_open_as(index, &file);
-        if self.put_read(alloc, file.name, file.revision, file.source)? {
-            return Ok(is_open);
+        if !self.is_open_as(index, &file) {
+            self.set_closed(alloc, index, file)?;
+            return Ok(false);
         }
-        Ok(false)
+        let same = self.put_read(alloc, file.name, file.revision, file.source)?;
+        Ok(same)
+    }
+
+    /// The same where it is not said. If at most one unit reads the file, and uses the same as before, the rest stays where it is.
+    fn set_closed(&mut self, alloc: Global, index: usize, file: Read) -> Result<(), AllocError>
+        requires { spec_index file.name self.old ≡ Some index }
+        ensures ok { OnOk result (self.new ≡ put self.old file) }
+        ensures err { OnErr result (self.new ≡ self.old) }
+    {
+        if self.set_unread(alloc, index, &file)? {
+            return Ok(());
+        }
+        self.put_read(alloc, file.name, file.revision, file.source)?;
+        Ok(())
     }
 
     /// What rests on what and uses what after the edit of a file; nothing, if that is the same as before, since no file is new
