@@ -9,4 +9,6 @@ mod walk;
 
 pub use sides::{each_one, side};
 pub use target::{root, target_of};
-pub use walk::{array_form, data_form, element, expression, named_type, type_form, word_form};
+pub use walk::{
+    array_form, data_form, element, expression, known_type_form, named_type, type_form, word_form,
+};

@@ -95,7 +95,6 @@ fn composed(
         }
         Expr::Converted(dims, word, following) => {
             let of = builtin(alloc, word.get(), scope, faults)?;
-            let of = known(of);
             let to = array_over(
                 alloc,
                 dims.as_slice(),
@@ -1073,7 +1072,6 @@ fn for_reading(
 }
 
 /// A type, if nothing is wrong with it.
-#[tactic(auto, using(occ_expr_operations::proofs::Views::type_form_rules))]
 #[cycle(walk)]
 pub fn type_form(
     alloc: Global,
@@ -1085,10 +1083,27 @@ pub fn type_form(
     ensures found { IfOk result (λ found. found ≡ (type_form_view of.now opening scope.now).found) }
     ensures faults { OnOk result (faults.new ≡ faults.old ++ (type_form_view of.now opening scope.now).faults) }
 {
+    let of = known_type_form(alloc, of, opening, scope, faults)?;
+    Ok(type_alone(of))
+}
+
+/// A type with what is asked of its size, if nothing is wrong with it.
+#[tactic(auto, using(occ_expr_operations::proofs::Views::type_form_rules))]
+#[cycle(walk)]
+pub fn known_type_form(
+    alloc: Global,
+    of: &TypeForm,
+    opening: Opening,
+    scope: &Scope,
+    faults: &mut Items<Fault>,
+) -> Result<Option<KnownType>, AllocError>
+    ensures found { IfOk result (λ found. found ≡ (type_form_view of.now opening scope.now).found) }
+    ensures faults { OnOk result (faults.new ≡ faults.old ++ (type_form_view of.now opening scope.now).faults) }
+{
     match of {
         TypeForm::Named(dims, name) => {
             let of = data_type(alloc, scope, name, faults)?;
-            array_over(
+            known_array_over(
                 alloc,
                 dims.as_slice(),
                 Items::new(alloc),
@@ -1100,8 +1115,7 @@ pub fn type_form(
         }
         TypeForm::Builtin(dims, word) => {
             let of = builtin(alloc, word.get(), scope, faults)?;
-            let of = known(of);
-            array_over(
+            known_array_over(
                 alloc,
                 dims.as_slice(),
                 Items::new(alloc),
@@ -1126,16 +1140,35 @@ pub fn named_type(
     ensures faults { OnOk result (faults.new ≡ faults.old ++ (spec_array_over [] (spec_data_type name.now (visible scope.now name.now))).faults) }
 {
     let of = data_type(alloc, scope, name, faults)?;
-    array_type(alloc, &[], of, faults)
+    let of = array_type(alloc, &[], of, faults)?;
+    Ok(type_alone(of))
 }
 
 /// An array of components of this type, if that has no fault, with these dimensions after the others.
 #[tactic(auto, unfolding(occ_expr_operations::specs::Written::array_after))]
 #[cycle(walk)]
-fn array_over(
+fn known_array_over(
     alloc: Global,
     dims: &[Dimension],
     mut extents: Items<Extent>,
+    of: Option<KnownType>,
+    opening: Opening,
+    scope: &Scope,
+    faults: &mut Items<Fault>,
+) -> Result<Option<KnownType>, AllocError>
+    ensures found { IfOk result (λ found. found ≡ (spec_array_after extents (each opening scope.now (dimension_views dims.now)) of).found) }
+    ensures faults { OnOk result (faults.new ≡ faults.old ++ (spec_array_after extents (each opening scope.now (dimension_views dims.now)) of).faults) }
+{
+    dimensions(alloc, dims, opening, scope, &mut extents, faults)?;
+    array_type(alloc, extents.as_slice(), of, faults)
+}
+
+/// An array as for `known_array_over`, without what is asked of its size.
+#[cycle(walk)]
+fn array_over(
+    alloc: Global,
+    dims: &[Dimension],
+    extents: Items<Extent>,
     of: Option<KnownType>,
     opening: Opening,
     scope: &Scope,
@@ -1144,8 +1177,8 @@ fn array_over(
     ensures found { IfOk result (λ found. found ≡ (spec_array_after extents (each opening scope.now (dimension_views dims.now)) of).found) }
     ensures faults { OnOk result (faults.new ≡ faults.old ++ (spec_array_after extents (each opening scope.now (dimension_views dims.now)) of).faults) }
 {
-    dimensions(alloc, dims, opening, scope, &mut extents, faults)?;
-    array_type(alloc, extents.as_slice(), of, faults)
+    let of = known_array_over(alloc, dims, extents, of, opening, scope, faults)?;
+    Ok(type_alone(of))
 }
 
 /// Dimensions of a type.
@@ -1192,11 +1225,18 @@ fn dimension(
     }
 }
 
-/// A type, if there is one, with what is asked of its size.
-fn known(of: Option<Shared<OccType>>) -> Option<KnownType>
+/// A type, if there is one, without what is asked of its size.
+fn type_alone(of: Option<KnownType>) -> Option<Shared<OccType>>
     ensures { result ≡ of }
 {
-    of.map(KnownType::new)
+    of.map(KnownType::into_type)
+}
+
+/// A type with what is asked of its size.
+fn known(alloc: Global, of: OccType) -> Result<KnownType, AllocError>
+    ensures { IfOk result (λ known. known ≡ of) }
+{
+    Ok(KnownType::new(Shared::new(alloc, of)?))
 }
 
 /// A type that begins with a reserved word.
@@ -1207,19 +1247,19 @@ fn builtin(
     word: &Builtin,
     scope: &Scope,
     faults: &mut Items<Fault>,
-) -> Result<Option<Shared<OccType>>, AllocError>
+) -> Result<Option<KnownType>, AllocError>
     ensures found { IfOk result (λ found. found ≡ (builtin_view word.now scope.now).found) }
     ensures faults { OnOk result (faults.new ≡ faults.old ++ (builtin_view word.now scope.now).faults) }
 {
     match word {
         Builtin::Primitive(primitive) => {
             let of = OccType::Primitive(primitive_of(*primitive));
-            Ok(Some(Shared::new(alloc, of)?))
+            Ok(Some(known(alloc, of)?))
         }
-        Builtin::Timer => Ok(Some(Shared::new(alloc, OccType::Timer)?)),
+        Builtin::Timer => Ok(Some(known(alloc, OccType::Timer)?)),
         Builtin::AnyChannel(_) => {
             let any = Shared::new(alloc, Protocol::Any)?;
-            Ok(Some(Shared::new(alloc, OccType::Channel(any))?))
+            Ok(Some(known(alloc, OccType::Channel(any))?))
         }
         Builtin::Channel(_, dims, base) => channel(alloc, dims.as_slice(), base, scope, faults),
         Builtin::Counted(_, dims, base, others, other) => {
@@ -1232,7 +1272,7 @@ fn builtin(
                 faults,
             )?;
             let count = count_type(count, faults)?;
-            let of = data_form(
+            let of = known_data_form(
                 alloc,
                 others.as_slice(),
                 other,
@@ -1246,7 +1286,6 @@ fn builtin(
 }
 
 /// A data type of these dimensions over this base, if nothing is wrong with it.
-#[tactic(auto, unfolding(occ_expr_operations::specs::Written::data_form))]
 #[cycle(walk)]
 pub fn data_form(
     alloc: Global,
@@ -1259,8 +1298,26 @@ pub fn data_form(
     ensures found { IfOk result (λ found. found ≡ (spec_data_form scope.now (each opening scope.now (dimension_views dims.now)) base.now).found) }
     ensures faults { OnOk result (faults.new ≡ faults.old ++ (spec_data_form scope.now (each opening scope.now (dimension_views dims.now)) base.now).faults) }
 {
+    let of = known_data_form(alloc, dims, base, opening, scope, faults)?;
+    Ok(type_alone(of))
+}
+
+/// A data type as for `data_form`, with what is asked of its size.
+#[tactic(auto, unfolding(occ_expr_operations::specs::Written::data_form))]
+#[cycle(walk)]
+fn known_data_form(
+    alloc: Global,
+    dims: &[Dimension],
+    base: &DataBase,
+    opening: Opening,
+    scope: &Scope,
+    faults: &mut Items<Fault>,
+) -> Result<Option<KnownType>, AllocError>
+    ensures found { IfOk result (λ found. found ≡ (spec_data_form scope.now (each opening scope.now (dimension_views dims.now)) base.now).found) }
+    ensures faults { OnOk result (faults.new ≡ faults.old ++ (spec_data_form scope.now (each opening scope.now (dimension_views dims.now)) base.now).faults) }
+{
     let of = base_type(alloc, scope, base, faults)?;
-    array_over(alloc, dims, Items::new(alloc), of, opening, scope, faults)
+    known_array_over(alloc, dims, Items::new(alloc), of, opening, scope, faults)
 }
 
 /// The type of a channel that carries what is named here: values of a data type, or those of a protocol.
@@ -1272,7 +1329,7 @@ fn channel(
     base: &DataBase,
     scope: &Scope,
     faults: &mut Items<Fault>,
-) -> Result<Option<Shared<OccType>>, AllocError>
+) -> Result<Option<KnownType>, AllocError>
     ensures found { IfOk result (λ found. found ≡ (spec_channel scope.now (each opened.Refused scope.now (dimension_views dims.now)) base.now).found) }
     ensures faults { OnOk result (faults.new ≡ faults.old ++ (spec_channel scope.now (each opened.Refused scope.now (dimension_views dims.now)) base.now).faults) }
 {
@@ -1282,11 +1339,11 @@ fn channel(
             named_channel(alloc, carried)
         }
         (None, DataBase::Primitive(_)) => {
-            let of = data_form(alloc, dims, base, Opening::Refused, scope, faults)?;
+            let of = known_data_form(alloc, dims, base, Opening::Refused, scope, faults)?;
             values_channel(alloc, of)
         }
         (Some(_), _) => {
-            let of = data_form(alloc, dims, base, Opening::Refused, scope, faults)?;
+            let of = known_data_form(alloc, dims, base, Opening::Refused, scope, faults)?;
             values_channel(alloc, of)
         }
     }
@@ -1305,7 +1362,6 @@ pub fn word_form(
     ensures faults { OnOk result (faults.new ≡ faults.old ++ (spec_array_over (each opening scope.now (dimension_views dims.now)) (builtin_view word.now scope.now)).faults) }
 {
     let of = builtin(alloc, word, scope, faults)?;
-    let of = known(of);
     array_over(alloc, dims, Items::new(alloc), of, opening, scope, faults)
 }
 

@@ -25,6 +25,6 @@ pub use selecting::{
     for_of, from_for_of, from_of, part_of, with_selector,
 };
 pub use written::{
-    Extent, Opening, array_type, base_type, count_type, counted_type, named_channel,
+    Extent, Opening, array_type, base_type, count_type, counted_type, limited, named_channel,
     open_dimension, primitive_of, values_channel,
 };

@@ -12,7 +12,7 @@ ghost use Rattle.occ_typing_rules.specs.Placing.{placed as spec_placed};
 use super::reading::Reading;
 use occ_base::{Items, Name, Shared};
 use occ_scope::Referent;
-use occ_types::{Field, OccType, Primitive, array_of, unnamed};
+use occ_types::{Field, OccType, Primitive, SoughtPart, array_of, unnamed};
 use occ_typing_operands::{Kind, Known, int};
 use occ_typing_rules::{OpenExpr, Selector, TypedElement, TypedExpr, placed};
 use occ_typing_tables::{BoundTerms, Term};
@@ -77,9 +77,10 @@ pub fn component_at(
 fn field_place(name: &Name, fields: &[Field]) -> Option<usize>
     ensures { result ≡ spec_field_place name.now fields.now }
 {
+    let sought = SoughtPart::new(name);
     let mut place = 0;
     for field in fields {
-        if field.name == *name {
+        if field.name.is(&sought) {
             return Some(place);
         }
         place += 1;

@@ -1,13 +1,12 @@
 //! Written types: dimensions, base types, channels and what they carry, with T2, T5 and T9.
-ghost use Rattle.std.specs.Prelude.{◌≡◌, ◌∷◌, ◌++◌, [], IfOk, OnOk};
+ghost use Rattle.std.specs.Prelude.{◌≡◌, ◌++◌, IfOk, OnOk};
 ghost use Rattle.occ_types.specs.declared.types.OccType.TheVariants as t;
-ghost use Rattle.occ_types.specs.declared.types.Protocol.TheVariants as c;
 ghost use Rattle.occ_expr_operations.specs.Written.{array_of as spec_array_of, base_type as spec_base_type, channel_if, channel_of_values, count_type as spec_count_type, counted_type as spec_counted_type, extent_of as spec_extent_of, limited as spec_limited, open_dimension as spec_open_dimension, primitive_of as spec_primitive_of, spanned as spec_spanned, spanned_by as spec_spanned_by};
 
-use occ_base::{Code, Fault, Items, Shared, one_item, report};
+use occ_base::{Code, Fault, Items, Shared, report};
 use occ_forms_expressions::{DataBase, PrimitiveWord};
 use occ_scope::{Carried, Scope, data_type};
-use occ_types::{Item, KnownType, OccType, Primitive, Protocol, as_primitive};
+use occ_types::{KnownType, OccType, Primitive, Protocol, as_primitive};
 use occ_typing_operands::number;
 use std::alloc::{AllocError, Global};
 
@@ -130,10 +129,10 @@ fn spanned_by(
 }
 
 /// The type, unless it is too large, which is reported.
-fn limited(
+pub fn limited(
     of: Option<KnownType>,
     faults: &mut Items<Fault>,
-) -> Result<Option<Shared<OccType>>, AllocError>
+) -> Result<Option<KnownType>, AllocError>
     ensures found { IfOk result (λ found. found ≡ (spec_limited of).found) }
     ensures faults { OnOk result (faults.new ≡ faults.old ++ (spec_limited of).faults) }
 {
@@ -144,7 +143,7 @@ fn limited(
         report(faults, Code::T9)?;
         return Ok(None);
     }
-    Ok(Some(of.into_type()))
+    Ok(Some(of))
 }
 
 /// A type with dimensions in front of it, if nothing is wrong with any: T9 is reported where it is too large.
@@ -153,7 +152,7 @@ pub fn array_type(
     extents: &[Extent],
     of: Option<KnownType>,
     faults: &mut Items<Fault>,
-) -> Result<Option<Shared<OccType>>, AllocError>
+) -> Result<Option<KnownType>, AllocError>
     ensures found { IfOk result (λ found. found ≡ (spec_limited (spec_spanned_by extents.now of)).found) }
     ensures faults { OnOk result (faults.new ≡ faults.old ++ (spec_limited (spec_spanned_by extents.now of)).faults) }
 {
@@ -161,30 +160,20 @@ pub fn array_type(
     limited(of, faults)
 }
 
-/// The type of a channel with this protocol.
-fn channel(alloc: Global, protocol: Shared<Protocol>) -> Result<Shared<OccType>, AllocError>
+/// The type of a channel with this protocol. It is gone through.
+fn channel(alloc: Global, protocol: Shared<Protocol>) -> Result<KnownType, AllocError>
     ensures { IfOk result (λ channel. channel ≡ t.Channel protocol) }
 {
-    Shared::new(alloc, OccType::Channel(protocol))
-}
-
-/// The protocol of this one item.
-fn protocol_of(alloc: Global, item: Item) -> Result<Shared<Protocol>, AllocError>
-    ensures { IfOk result (λ protocol. protocol ≡ c.Sequence (item ∷ [])) }
-{
-    let items = one_item(alloc, item)?;
-    Shared::new(alloc, Protocol::Sequence(items))
+    let channel = Shared::new(alloc, OccType::Channel(protocol))?;
+    Ok(KnownType::new(channel))
 }
 
 /// The type of a channel that carries values of a type, if that has no fault.
-pub fn values_channel(
-    alloc: Global,
-    of: Option<Shared<OccType>>,
-) -> Result<Option<Shared<OccType>>, AllocError>
+pub fn values_channel(alloc: Global, of: Option<KnownType>) -> Result<Option<KnownType>, AllocError>
     ensures { IfOk result (λ channel. channel ≡ channel_of_values of) }
 {
     match of {
-        Some(of) => Ok(Some(channel(alloc, protocol_of(alloc, Item::Value(of))?)?)),
+        Some(of) => Ok(Some(of.channel(alloc)?)),
         None => Ok(None),
     }
 }
@@ -193,7 +182,7 @@ pub fn values_channel(
 pub fn named_channel(
     alloc: Global,
     carried: Option<Carried>,
-) -> Result<Option<Shared<OccType>>, AllocError>
+) -> Result<Option<KnownType>, AllocError>
     ensures { IfOk result (λ channel. channel ≡ channel_if carried) }
 {
     match carried {
@@ -227,15 +216,12 @@ pub fn count_type(
 pub fn counted_type(
     alloc: Global,
     count: Option<Primitive>,
-    of: Option<Shared<OccType>>,
-) -> Result<Option<Shared<OccType>>, AllocError>
+    of: Option<KnownType>,
+) -> Result<Option<KnownType>, AllocError>
     ensures { IfOk result (λ channel. channel ≡ spec_counted_type count of) }
 {
     match (count, of) {
-        (Some(count), Some(of)) => {
-            let protocol = protocol_of(alloc, Item::Counted(count, of))?;
-            Ok(Some(channel(alloc, protocol)?))
-        }
+        (Some(count), Some(of)) => Ok(Some(of.counted_channel(alloc, count)?)),
         _ => Ok(None),
     }
 }

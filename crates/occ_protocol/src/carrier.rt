@@ -6,7 +6,7 @@ ghost use Rattle.occ_protocol.specs.Carrying.{carried as spec_carried, carrier a
 ghost use Rattle.occ_protocol.specs.inside.Seen.{seen, tag_seen};
 
 use occ_base::Name;
-use occ_types::{Item, OccType, Protocol, SoughtTag, Tag};
+use occ_types::{Item, OccType, Protocol, SoughtPart, Tag};
 use occ_typing_operands::Kind;
 
 /// What an element is to those who send and receive through it.
@@ -73,7 +73,7 @@ pub(super) fn found<'a>(tags: &'a [Tag], name: &Name) -> (Option<usize>, Option<
     ensures place { result.0 ≡ spec_place_named tags.now name.now }
     ensures tag { tag_seen result.1 ≡ spec_tag_named tags.now name.now }
 {
-    let sought = SoughtTag::new(name);
+    let sought = SoughtPart::new(name);
     let mut place = 0;
     for tag in tags {
         if tag.name.is(&sought) {

@@ -6,14 +6,14 @@ ghost use Rattle.occ_scope.specs.Visible.{visible};
 use super::meaning::{Meaning, Whole};
 use super::scope::Scope;
 use occ_base::{Code, Fault, Items, Name, Shared};
-use occ_types::{KnownType, OccType, Protocol};
+use occ_types::{KnownType, Protocol};
 use std::alloc::{AllocError, Global};
 
 /// What a channel carries whose type names it.
 #[derive(Drop)]
 pub enum Carried {
     /// Values of one data type.
-    Values(Shared<OccType>),
+    Values(KnownType),
     Protocol(Shared<Protocol>),
 }
 
@@ -86,7 +86,7 @@ pub fn carries(
     ensures faults { OnOk result (faults.new ≡ faults.old ++ (spec_carries name.now (visible scope.now name.now)).faults) }
 {
     match scope.find(name) {
-        Some(Meaning::Type(Some(of))) => Ok(Some(Carried::Values(of.of().share()?))),
+        Some(Meaning::Type(Some(of))) => Ok(Some(Carried::Values(of.share()?))),
         Some(Meaning::Protocol(protocol)) => Ok(Some(Carried::Protocol(protocol.share()?))),
         _ => {
             report(alloc, scope, name, faults)?;

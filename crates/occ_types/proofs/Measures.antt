@@ -73,7 +73,7 @@ measure_value of = ap item_measure (sym (i.rolls-Value of)) ∙ fold-roll-Item M
 pub measure_counted : (count : Primitive) (of : OccType) → item_measure (i.Counted count of) ≡ beside one (above (measure_of of))
 measure_counted count of = ap item_measure (sym (i.rolls-Counted count of)) ∙ fold-roll-Item Measure Measure Measure Measure Measure item_step type_step protocol_step field_step tag_step (Item-F.Counted count of)
 
-same_measure : (l l' n n' : ℕ) → l ≡ l' → n ≡ n' → (let a : Measure = record { levels = l; types = n } in let b : Measure = record { levels = l'; types = n' } in a ≡ b)
+pub same_measure : (l l' n n' : ℕ) → l ≡ l' → n ≡ n' → (let a : Measure = record { levels = l; types = n } in let b : Measure = record { levels = l'; types = n' } in a ≡ b)
 same_measure l l' n n' e f = ap (λ (x : ℕ). let a : Measure = record { levels = x; types = n } in a) e ∙ ap (λ (y : ℕ). let a : Measure = record { levels = l'; types = y } in a) f
 
 pub held_held : (m : Measure) → held (held m) ≡ held m

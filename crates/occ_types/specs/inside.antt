@@ -2,5 +2,5 @@
 pub mod KnownTypes
 pub mod MaybeValues
 pub mod Digests
-pub mod TagNames
-pub mod SoughtTags
+pub mod PartNames
+pub mod SoughtParts

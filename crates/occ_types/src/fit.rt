@@ -94,7 +94,7 @@ fn item_fits(a: &Item, b: &Item) -> bool
 fn field_fits(a: &Field, b: &Field) -> bool
     ensures { result ≡ spec_field_fits a.now b.now }
 {
-    a.name == b.name
+    a.name.name() == b.name.name()
         && (is_unknown(a.of.get()) || is_unknown(b.of.get()) || fits(a.of.get(), b.of.get()))
 }
 
@@ -190,7 +190,7 @@ pub fn alike(a: &OccType, b: &OccType) -> bool
 fn field_alike(a: &Field, b: &Field) -> bool
     ensures { result ≡ spec_field_alike a.now b.now }
 {
-    a.name == b.name && (is_unknown(b.of.get()) || alike(a.of.get(), b.of.get()))
+    a.name.name() == b.name.name() && (is_unknown(b.of.get()) || alike(a.of.get(), b.of.get()))
 }
 
 #[cycle(alike)]

@@ -1,19 +1,22 @@
 //! When a type is too large (T9): by bytes, levels or number of types. A type with what is asked of it for that, found once.
-#![tactic(auto, using(crate::proofs::Larges::large_rules, crate::proofs::Sizes::size_rules, crate::proofs::Measures::measure_rules, crate::proofs::Unknowns::unknown_rules))]
+#![tactic(auto, using(crate::proofs::Larges::large_rules, crate::proofs::Sizes::size_rules, crate::proofs::Measures::measure_rules, crate::proofs::Unknowns::unknown_rules, crate::proofs::Channels::channel_rules))]
 
-ghost use Rattle.std.specs.Prelude.{IfOk, ◌≡◌};
+ghost use Rattle.std.specs.Prelude.{IfOk, [], ◌∷◌, ◌≡◌};
 ghost use Rattle.occ_types.specs.Large.{is_oversized as spec_is_oversized, is_too_large as spec_is_too_large, is_too_wide as spec_is_too_wide};
 ghost use Rattle.occ_types.specs.Measure.{held, measure_of as spec_measure_of};
 ghost use Rattle.occ_types.specs.Size.{capped, is_over as spec_is_over, size_of};
 ghost use Rattle.occ_types.specs.Unknown.{holds_unknown as spec_holds_unknown};
+ghost use Rattle.occ_types.specs.declared.types.Item.TheVariants as i;
 ghost use Rattle.occ_types.specs.declared.types.OccType.TheVariants as t;
+ghost use Rattle.occ_types.specs.declared.types.Protocol.TheVariants as p;
 ghost use Rattle.std.specs.Prelude.{ℕ, Option};
 
 use super::measure::{Measure, measure_of};
 use super::size::{array_extent, extent, is_oversized as has_too_many_bytes};
-use super::types::OccType;
+use super::types::{Item, OccType, Protocol};
 use super::unknown::holds_unknown;
-use occ_base::Shared;
+use super::value::Primitive;
+use occ_base::{Name, Shared, one_item};
 use std::alloc::{AllocError, Global};
 use std::marker::Model;
 
@@ -53,6 +56,16 @@ fn is_oversized(of: &OccType) -> bool
     }
 }
 
+/// Whether a type of this extent, or one that it is an array of, has over 2,147,483,647 bytes.
+fn is_oversized_at(of: &OccType, extent: Option<u64>) -> bool
+    ensures { extent ≡ capped (size_of of.now) → result ≡ spec_is_oversized of.now }
+{
+    match of {
+        OccType::Array(_, inner) => is_over(extent) || is_oversized(inner.get()),
+        _ => is_over(extent),
+    }
+}
+
 /// Whether the extent of a type is over 2,147,483,647 bytes.
 fn is_over(extent: Option<u64>) -> bool
     ensures { (size : Option ℕ) → extent ≡ capped size → result ≡ spec_is_over size }
@@ -79,16 +92,26 @@ pub fn is_too_large(of: &OccType) -> bool
     is_oversized(of) || is_too_wide(measure_of(of)) && !holds_unknown(of)
 }
 
+/// A channel whose protocol is this one item.
+fn channel_of(alloc: Global, item: Item) -> Result<Shared<OccType>, AllocError>
+    ensures { IfOk result (λ channel. channel ≡ t.Channel (p.Sequence (item ∷ []))) }
+{
+    let protocol = Protocol::Sequence(one_item(alloc, item)?);
+    let protocol = Shared::new(alloc, protocol)?;
+    Shared::new(alloc, OccType::Channel(protocol))
+}
+
 impl KnownType {
     /// A type. It is gone through once.
     pub fn new(of: Shared<OccType>) -> KnownType
         ensures { result ≡ of }
     {
+        let extent = extent(of.get());
         KnownType {
-            extent: extent(of.get()),
+            extent,
             measure: measure_of(of.get()),
             holds_unknown: holds_unknown(of.get()),
-            is_oversized: is_oversized(of.get()),
+            is_oversized: is_oversized_at(of.get(), extent),
             of,
         }
     }
@@ -121,6 +144,27 @@ impl KnownType {
         of
     }
 
+    /// A type with this name that is defined to be this type.
+    pub fn named(self, alloc: Global, name: Name) -> Result<KnownType, AllocError>
+        ensures { IfOk result (λ named. named ≡ t.Named name self) }
+    {
+        let KnownType {
+            of,
+            extent,
+            measure,
+            holds_unknown,
+            is_oversized: _,
+        } = self;
+        let measure = measure.above();
+        Ok(KnownType {
+            of: Shared::new(alloc, OccType::Named(name, of))?,
+            extent,
+            measure,
+            holds_unknown,
+            is_oversized: is_over(extent),
+        })
+    }
+
     /// An array of so many components of this type.
     pub fn array(self, alloc: Global, count: Option<u32>) -> Result<KnownType, AllocError>
         ensures { IfOk result (λ array. array ≡ t.Array count self) }
@@ -139,6 +183,44 @@ impl KnownType {
             measure: measure.above(),
             holds_unknown,
             is_oversized: is_over(extent) || is_oversized,
+        })
+    }
+
+    /// A channel that carries values of this type.
+    pub fn channel(self, alloc: Global) -> Result<KnownType, AllocError>
+        ensures { IfOk result (λ channel. channel ≡ t.Channel (p.Sequence (i.Value self ∷ []))) }
+    {
+        let KnownType {
+            of,
+            measure: carried,
+            holds_unknown,
+            ..
+        } = self;
+        Ok(KnownType {
+            of: channel_of(alloc, Item::Value(of))?,
+            extent: None,
+            measure: carried.above(),
+            holds_unknown,
+            is_oversized: false,
+        })
+    }
+
+    /// A channel that carries a count of a type, and so many values of this type.
+    pub fn counted_channel(self, alloc: Global, count: Primitive) -> Result<KnownType, AllocError>
+        ensures { IfOk result (λ channel. channel ≡ t.Channel (p.Sequence (i.Counted count self ∷ []))) }
+    {
+        let KnownType {
+            of,
+            measure: carried,
+            holds_unknown,
+            ..
+        } = self;
+        Ok(KnownType {
+            of: channel_of(alloc, Item::Counted(count, of))?,
+            extent: None,
+            measure: Measure::one().beside(carried.above()).above(),
+            holds_unknown,
+            is_oversized: false,
         })
     }
 

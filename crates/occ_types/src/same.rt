@@ -51,7 +51,7 @@ pub fn same_protocol(a: &Protocol, b: &Protocol) -> bool
 fn same_field(a: &Field, b: &Field) -> bool
     ensures { IsTrue result ↔ (a.now ≡ b.now) }
 {
-    a.name == b.name && same_type(a.of.get(), b.of.get())
+    a.name.name() == b.name.name() && same_type(a.of.get(), b.of.get())
 }
 
 #[cycle(same)]

@@ -1,5 +1,5 @@
 //! Types and protocols, with every name resolved to its definition. Parts are shared.
-use super::tag_name::TagName;
+use super::part_name::PartName;
 use super::value::Primitive;
 use occ_base::{Items, Name, Shared};
 
@@ -30,7 +30,7 @@ pub enum Packing {
 #[cycle(types)]
 #[derive(Drop)]
 pub struct Field {
-    pub name: Name,
+    pub name: PartName,
     pub of: Shared<OccType>,
 }
 
@@ -60,6 +60,6 @@ pub enum Item {
 #[cycle(types)]
 #[derive(Drop)]
 pub struct Tag {
-    pub name: TagName,
+    pub name: PartName,
     pub items: Items<Item>,
 }

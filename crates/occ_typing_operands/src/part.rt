@@ -9,7 +9,7 @@ use super::operate::is_int;
 use super::settle::{int, known, settled};
 use super::want::wanted;
 use occ_base::{Code, Fault, Items, Name, Shared, report};
-use occ_types::{Field, OccType, Primitive, Value, array_of, is_unknown, unnamed};
+use occ_types::{Field, OccType, Primitive, SoughtPart, Value, array_of, is_unknown, unnamed};
 use std::alloc::{AllocError, Global};
 
 /// Whether a constant is no place of an array of so many components.
@@ -145,8 +145,9 @@ pub fn subscripted(
 fn field_named<'a>(fields: &'a [Field], name: &Name) -> Option<&'a Shared<OccType>>
     ensures { MatchOption result (spec_field_named name.now fields.now ≡ None) (λ of. spec_field_named name.now fields.now ≡ Some of.now) }
 {
+    let sought = SoughtPart::new(name);
     for field in fields {
-        if field.name == *name {
+        if field.name.is(&sought) {
             return Some(&field.of);
         }
     }

@@ -9,7 +9,7 @@ use super::reported::unless_reported;
 use occ_base::{Fault, Items, Name, Shared};
 use occ_forms_expressions::TypeForm;
 use occ_scope::{Scope, Scopes};
-use occ_types::{Field, OccType};
+use occ_types::{Field, OccType, PartName};
 use occ_typing_rules::repeated;
 use std::alloc::{AllocError, Global};
 use std::slice;
@@ -90,7 +90,7 @@ fn push_field(
 ) -> Result<(), AllocError>
     ensures { OnOk result (fields.new ≡ fields.old ++ spec_each_of of.now (name.now ∷ [])) }
 {
-    let name = name.copied(alloc)?;
+    let name = PartName::new(name.copied(alloc)?);
     let of = of.share()?;
     fields.push(Field { name, of })
 }

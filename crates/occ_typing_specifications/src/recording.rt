@@ -21,6 +21,6 @@ pub fn record(
     ensures faults { OnOk result (faults.new ≡ faults.old ++ (recorded name.now packing fields).faults) }
 {
     let of = Shared::new(alloc, OccType::Record(packing, fields))?;
-    let of = with_name(alloc, name, Some(of), faults)?;
-    Ok(Meaning::Type(of.map(KnownType::new)))
+    let of = with_name(alloc, name, Some(KnownType::new(of)), faults)?;
+    Ok(Meaning::Type(of))
 }

@@ -8,7 +8,7 @@ use super::detail::detail_items;
 use occ_base::{Fault, Items, Name, Shared, one_item};
 use occ_forms::Detail;
 use occ_scope::{Scope, Scopes};
-use occ_types::{Item, OccType, Tag, TagName};
+use occ_types::{Item, OccType, PartName, Tag};
 use occ_typing_rules::repeated;
 use std::alloc::{AllocError, Global};
 use std::slice;
@@ -58,6 +58,6 @@ pub fn tag(
     repeated(alloc, slice::from_ref(name), before, &mut reported)?;
     let items = tag_items(alloc, &reported, items)?;
     faults.append(reported)?;
-    let name = TagName::new(name.copied(alloc)?);
+    let name = PartName::new(name.copied(alloc)?);
     Ok(Tag { name, items })
 }

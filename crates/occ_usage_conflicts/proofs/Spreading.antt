@@ -1,7 +1,9 @@
 -- Parts that are spread over lists meet those of their own list alone.
 use Rattle.std.specs.Prelude.{unsigned_abs, ◌%◌, slice_get, slice_set, not, Result, Ok, Err, OnOk, OnErr}
 use Rattle.std.specs.List.{list_any}
+use Rattle.std.specs.Str.{bytes_eq}
 use Rattle.std.proofs.Common.{◌≡◌, ◌≢◌, ◌∙◌, ℕ, ℤ, zero, suc, Bool, true, false, ◌||◌, ◌==◌, Some, List, [], ◌∷◌, ◌++◌, length, refl, ap, sym, subst, arith}
+use Rattle.std.proofs.lemmas.Slice.Eq.{bytes_eq-Decides}
 use Rattle.occ_usage_parts.specs.Keeping.{meets_some}
 use Rattle.occ_usage_parts.specs.Parts.{are_apart, differ, has_empty, some_differ}
 use Rattle.occ_usage_parts.specs.Places.{meet}
@@ -9,6 +11,7 @@ use Rattle.occ_types.specs.declared.interface.PartSelector.{PartSelector}
 use Rattle.occ_types.specs.declared.interface.PartSelector.TheVariants as s
 use Rattle.occ_types.specs.declared.interface.Places.{Places}
 use Rattle.occ_types.specs.declared.interface.Places.TheVariants as places
+use Rattle.occ_usage_conflicts.specs.inside.Numbering.{number_of_bytes}
 use Rattle.occ_usage_conflicts.specs.inside.Spreading.{IsSpread, all_in, list_at, list_of, list_of_places, meets_at, meets_in}
 
 abbrev pub Parts : Type 0
@@ -19,12 +22,18 @@ Parts = List (List PartSelector)
 other_places : (x y : ℤ) → unsigned_abs x ≢ unsigned_abs y → meet (places.Run x 0) (places.Run y 0) ≡ false
 other_places x y d = grind (arith, d)
 
-same_list : (x y : ℤ) (n i j : ℕ) → list_at x n ≡ Some i → list_at y n ≡ Some j → j ≢ i → unsigned_abs x ≢ unsigned_abs y
-same_list x y zero i j a b d = absurd (grind (arith, a))
-same_list x y (suc n) i j a b d = λ e.
-    let i_is : i ≡ unsigned_abs x % suc n = grind (arith, a) in
-    let j_is : j ≡ unsigned_abs y % suc n = grind (arith, b) in
+other_numbers : (x y n i j : ℕ) → list_at x n ≡ Some i → list_at y n ≡ Some j → j ≢ i → x ≢ y
+other_numbers x y zero i j a b d = absurd (grind (arith, a))
+other_numbers x y (suc n) i j a b d = λ e.
+    let i_is : i ≡ x % suc n = grind (arith, a) in
+    let j_is : j ≡ y % suc n = grind (arith, b) in
     d (j_is ∙ ap (λ (k : ℕ). k % suc n) (sym e) ∙ sym i_is)
+
+names_differ : (l m : List ℕ) (n i j : ℕ) → list_at (number_of_bytes 0 l) n ≡ Some i → list_at (number_of_bytes 0 m) n ≡ Some j → j ≢ i → bytes_eq l m ≡ false
+names_differ l m n i j a b d = by (bytes_eq l m) refl where
+  by : (same : Bool) → bytes_eq l m ≡ same → same ≡ false
+  by false e = refl
+  by true e = absurd (other_numbers (number_of_bytes 0 l) (number_of_bytes 0 m) n i j a b d (ap (number_of_bytes 0) ((bytes_eq-Decides l m).0 e)))
 
 places_differ : (p q : Places) (n i j : ℕ) → list_of_places p n ≡ Some i → list_of_places q n ≡ Some j → j ≢ i → meet p q ≡ false
 places_differ places.None q n i j a b d = absurd (grind (arith, a))
@@ -35,7 +44,7 @@ places_differ (places.Run x zero) places.None n i j a b d = absurd (grind (arith
 places_differ (places.Run x zero) places.All n i j a b d = absurd (grind (arith, b))
 places_differ (places.Run x zero) (places.From y) n i j a b d = absurd (grind (arith, b))
 places_differ (places.Run x zero) (places.Run y (suc m)) n i j a b d = absurd (grind (arith, b))
-places_differ (places.Run x zero) (places.Run y zero) n i j a b d = other_places x y (same_list x y n i j a b d)
+places_differ (places.Run x zero) (places.Run y zero) n i j a b d = other_places x y (other_numbers (unsigned_abs x) (unsigned_abs y) n i j a b d)
 
 not_of : (b : Bool) → b ≡ false → not b ≡ true
 not_of true e = absurd (grind (arith, e))
@@ -49,9 +58,15 @@ first_true false false false d e = absurd (grind (arith, e))
 
 apart : (p q : List PartSelector) (n i j : ℕ) → list_of p n ≡ Some i → list_of q n ≡ Some j → j ≢ i → are_apart p q ≡ true
 apart [] q n i j a b d = absurd (grind (arith, a))
-apart (s.Field name ∷ xs) q n i j a b d = absurd (grind (arith, a))
+apart (s.Field l ∷ xs) [] n i j a b d = absurd (grind (arith, b))
+apart (s.Field l ∷ xs) (s.Field m ∷ ys) n i j a b d =
+    first_true (has_empty (s.Field l ∷ xs)) (has_empty (s.Field m ∷ ys)) (differ (s.Field l) (s.Field m)) (some_differ xs ys)
+    (not_of (bytes_eq l m) (names_differ l m n i j a b d))
+apart (s.Field l ∷ xs) (s.Interval y ∷ ys) n i j a b d =
+    first_true (has_empty (s.Field l ∷ xs)) (has_empty (s.Interval y ∷ ys)) (differ (s.Field l) (s.Interval y)) (some_differ xs ys) refl
 apart (s.Interval x ∷ xs) [] n i j a b d = absurd (grind (arith, b))
-apart (s.Interval x ∷ xs) (s.Field name ∷ ys) n i j a b d = absurd (grind (arith, b))
+apart (s.Interval x ∷ xs) (s.Field m ∷ ys) n i j a b d =
+    first_true (has_empty (s.Interval x ∷ xs)) (has_empty (s.Field m ∷ ys)) (differ (s.Interval x) (s.Field m)) (some_differ xs ys) refl
 apart (s.Interval x ∷ xs) (s.Interval y ∷ ys) n i j a b d =
     first_true (has_empty (s.Interval x ∷ xs)) (has_empty (s.Interval y ∷ ys)) (differ (s.Interval x) (s.Interval y)) (some_differ xs ys)
     (not_of (meet x.places y.places) (places_differ x.places y.places n i j a b d))

@@ -1,12 +1,13 @@
-//! The parts of one root that earlier components use. Few ways of beginning are in one list, many in 256, by the index that
-//! they select first, so that unlike parts cost no pairs.
+//! The parts of one root that earlier components use. Few ways of beginning are in one list, many in 256, by the field or the
+//! index that they select first, so that unlike parts cost no pairs.
 ghost use Rattle.std.specs.Prelude.{◌≡◌, ◌<◌, ◌||◌, [], IfOk, IfSome, List, OnOk, Some, false, length, not};
 ghost use Rattle.occ_usage_parts.specs.Keeping.{meets_some};
 ghost use Rattle.occ_usage_parts.specs.Parts.{are_apart as spec_are_apart};
 ghost use Rattle.occ_types.specs.declared.interface.PartSelector.{PartSelector as ASelector};
-ghost use Rattle.occ_usage_conflicts.specs.inside.Spreading.{IsSpread, list_of as spec_list_of, meets_at as spec_meets_at, meets_in};
+ghost use Rattle.occ_usage_conflicts.specs.inside.Spreading.{IsSpread, list_at as spec_list_at, list_of as spec_list_of, list_of_places as spec_list_of_places, meets_at as spec_meets_at, meets_in};
 
-use occ_types::{Interval, PartSelector, Places};
+use super::numbering::of_bytes;
+use occ_types::{PartSelector, Places};
 use occ_usage_parts::Paths;
 use std::alloc::{AllocError, Global};
 use std::marker::Model;
@@ -21,7 +22,7 @@ const LISTS: usize = 256;
 #[derive(Drop)]
 pub(crate) struct Accumulated {
     few: Paths,
-    /// By the place that the first selector selects, if it is one place: so that a part meets those of its own list alone.
+    /// By the field or the one place that the first selector selects: so that a part meets those of its own list alone.
     spread: Vec<Paths>,
 }
 
@@ -105,17 +106,36 @@ fn no_lists(alloc: Global) -> Result<Vec<Paths>, AllocError>
     Ok(lists)
 }
 
-/// Which of so many lists has the parts that begin with the place with which a part begins.
+/// Which of so many lists is that of a number, if there are any.
+fn list_at(number: u64, count: usize) -> Option<usize>
+    ensures list { result ≡ spec_list_at number count }
+    ensures within { IfSome result (λ at. at < count) }
+{
+    if count == 0 {
+        return None;
+    }
+    Some((number % count as u64) as usize)
+}
+
+/// The list of the parts that begin with a place, if it is one place.
+fn list_of_places(places: Places, count: usize) -> Option<usize>
+    ensures list { result ≡ spec_list_of_places places count }
+    ensures within { IfSome result (λ at. at < count) }
+{
+    match places {
+        Places::Run(first, 0) => list_at(first.unsigned_abs(), count),
+        _ => None,
+    }
+}
+
+/// Which of so many lists has the parts that begin with the field or the place with which a part begins.
 fn list_of(part: &[PartSelector], count: usize) -> Option<usize>
     ensures list { result ≡ spec_list_of part.now count }
     ensures within { IfSome result (λ at. at < count) }
 {
-    let [PartSelector::Interval(Interval { places, .. }), ..] = part else {
-        return None;
-    };
-    match places {
-        Places::Run(first, 0) if count > 0 => Some((first.unsigned_abs() % count as u64) as usize),
-        _ => None,
+    match part.first()? {
+        PartSelector::Field(name) => list_at(of_bytes(name.as_bytes()), count),
+        PartSelector::Interval(interval) => list_of_places(interval.places, count),
     }
 }
 
@@ -123,6 +143,9 @@ fn list_of(part: &[PartSelector], count: usize) -> Option<usize>
 fn meets_spread(lists: &[Paths], part: &[PartSelector]) -> bool
     ensures { IsSpread lists.now → result ≡ meets_in lists.now part.now }
 {
+    if lists.is_empty() {
+        return false;
+    }
     match list_of(part, lists.len()) {
         Some(at) => meets_at(lists, at, part),
         None => meets_any(lists, part),

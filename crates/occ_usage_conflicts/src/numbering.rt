@@ -13,7 +13,7 @@ fn mixed(seed: u64, more: u64) -> u64
 }
 
 /// One number of bytes.
-fn of_bytes(bytes: &[u8]) -> u64
+pub(crate) fn of_bytes(bytes: &[u8]) -> u64
     ensures { result ≡ number_of_bytes 0 bytes.now }
 {
     let mut number = 0;

@@ -16,17 +16,17 @@ use Rattle.occ_expr_operations.proofs.Views.{bounds_for_said, bounds_for_tree, b
 use Rattle.occ_expr.proofs.Decimals.{decimal_selects, decimal_tree}
 use Rattle.occ_expr.proofs.walk.+walk.Goals as goal
 
-pub type_form-returns-in_ok-of-in-Named-clause-faults : goal.type_form-returns-in_ok-of-in-Named-clause-faults
-type_form-returns-in_ok-of-in-Named-clause-faults t c =
-    step.named_type_faults c.array_over.result _ _ _ _ _ _ _ _ _ _ (c.in-Named.is ∙ ap (λ z. tv.Named z c.in-Named.name) (sym c.as_slice.ensures)) c.in_ok-of-in-Named.ensures.faults c.in_ok-of-in-Named.ensures.found c.new.ensures c.array_over.ensures.faults
+pub known_type_form-returns-in_ok-of-in-Named-clause-faults : goal.known_type_form-returns-in_ok-of-in-Named-clause-faults
+known_type_form-returns-in_ok-of-in-Named-clause-faults t c =
+    step.named_type_faults c.known_array_over.result _ _ _ _ _ _ _ _ _ _ (c.in-Named.is ∙ ap (λ z. tv.Named z c.in-Named.name) (sym c.as_slice.ensures)) c.in_ok-of-in-Named.ensures.faults c.in_ok-of-in-Named.ensures.found c.new.ensures c.known_array_over.ensures.faults
 
-pub type_form-returns-in_ok-of-in-Named-clause-found : goal.type_form-returns-in_ok-of-in-Named-clause-found
-type_form-returns-in_ok-of-in-Named-clause-found t c =
-    step.named_type_found c.array_over.result _ _ _ _ _ _ _ (c.in-Named.is ∙ ap (λ z. tv.Named z c.in-Named.name) (sym c.as_slice.ensures)) c.in_ok-of-in-Named.ensures.found c.new.ensures c.array_over.ensures.found
+pub known_type_form-returns-in_ok-of-in-Named-clause-found : goal.known_type_form-returns-in_ok-of-in-Named-clause-found
+known_type_form-returns-in_ok-of-in-Named-clause-found t c =
+    step.named_type_found c.known_array_over.result _ _ _ _ _ _ _ (c.in-Named.is ∙ ap (λ z. tv.Named z c.in-Named.name) (sym c.as_slice.ensures)) c.in_ok-of-in-Named.ensures.found c.new.ensures c.known_array_over.ensures.found
 
-pub type_form-returns-in_ok-of-in-Builtin-clause-faults : goal.type_form-returns-in_ok-of-in-Builtin-clause-faults
-type_form-returns-in_ok-of-in-Builtin-clause-faults t c =
-    step.built_in_type_faults c.array_over-in-Builtin.result _ _ _ _ _ _ _ _ _ _ (c.in-Builtin.is ∙ ap (λ z. tv.Builtin z c.in-Builtin.word) (sym c.as_slice-in-Builtin.ensures) ∙ ap (λ z. tv.Builtin c.as_slice-in-Builtin.result.now z) (sym c.get.ensures)) c.in_ok-of-in-Builtin.ensures.faults (c.known-of.ensures ∙ c.in_ok-of-in-Builtin.ensures.found) c.new-in-Builtin.ensures c.array_over-in-Builtin.ensures.faults
+pub known_type_form-returns-in_ok-of-in-Builtin-clause-faults : goal.known_type_form-returns-in_ok-of-in-Builtin-clause-faults
+known_type_form-returns-in_ok-of-in-Builtin-clause-faults t c =
+    step.built_in_type_faults c.known_array_over-in-Builtin.result _ _ _ _ _ _ _ _ _ _ (c.in-Builtin.is ∙ ap (λ z. tv.Builtin z c.in-Builtin.word) (sym c.as_slice-in-Builtin.ensures) ∙ ap (λ z. tv.Builtin c.as_slice-in-Builtin.result.now z) (sym c.get.ensures)) c.in_ok-of-in-Builtin.ensures.faults (c.in_ok-of-in-Builtin.ensures.found) c.new-in-Builtin.ensures c.known_array_over-in-Builtin.ensures.faults
 
 pub builtin-returns-in-Channel-clause-found : goal.builtin-returns-in-Channel-clause-found
 builtin-returns-in-Channel-clause-found t c =
@@ -446,8 +446,8 @@ place_reading-returns-clause-tree t c = grind (arith, common_steps)
 pub place_reading-returns-clause-faults : goal.place_reading-returns-clause-faults
 place_reading-returns-clause-faults t c = grind (arith, common_steps)
 
-pub type_form-returns-in_ok-of-in-Builtin-clause-found : goal.type_form-returns-in_ok-of-in-Builtin-clause-found
-type_form-returns-in_ok-of-in-Builtin-clause-found t c = grind (arith, common_steps, type_form_builtin_view)
+pub known_type_form-returns-in_ok-of-in-Builtin-clause-found : goal.known_type_form-returns-in_ok-of-in-Builtin-clause-found
+known_type_form-returns-in_ok-of-in-Builtin-clause-found t c = grind (arith, common_steps, type_form_builtin_view)
 
 pub dimension-returns-in-Open-clause-faults : goal.dimension-returns-in-Open-clause-faults
 dimension-returns-in-Open-clause-faults t c = grind (arith, common_steps, dimension_open_view)
@@ -461,23 +461,23 @@ dimension-returns-in_ok-read-in-Sized-clause-faults t c = grind (arith, common_s
 pub builtin-returns-in-Channel-clause-faults : goal.builtin-returns-in-Channel-clause-faults
 builtin-returns-in-Channel-clause-faults t c = grind (arith, common_steps, builtin_channel_view)
 
-pub builtin-returns-in_ok-new-in-Primitive-clause-found : goal.builtin-returns-in_ok-new-in-Primitive-clause-found
-builtin-returns-in_ok-new-in-Primitive-clause-found t c = grind (arith, common_steps, builtin_primitive_view)
+pub builtin-returns-in_ok-known-in-Primitive-clause-found : goal.builtin-returns-in_ok-known-in-Primitive-clause-found
+builtin-returns-in_ok-known-in-Primitive-clause-found t c = grind (arith, common_steps, builtin_primitive_view)
 
-pub builtin-returns-in_ok-new-in-Primitive-clause-faults : goal.builtin-returns-in_ok-new-in-Primitive-clause-faults
-builtin-returns-in_ok-new-in-Primitive-clause-faults t c = grind (arith, common_steps, builtin_primitive_view)
+pub builtin-returns-in_ok-known-in-Primitive-clause-faults : goal.builtin-returns-in_ok-known-in-Primitive-clause-faults
+builtin-returns-in_ok-known-in-Primitive-clause-faults t c = grind (arith, common_steps, builtin_primitive_view)
 
-pub builtin-returns-in_ok-new-in-Timer-clause-found : goal.builtin-returns-in_ok-new-in-Timer-clause-found
-builtin-returns-in_ok-new-in-Timer-clause-found t c = grind (arith, common_steps, builtin_timer_view)
+pub builtin-returns-in_ok-known-in-Timer-clause-found : goal.builtin-returns-in_ok-known-in-Timer-clause-found
+builtin-returns-in_ok-known-in-Timer-clause-found t c = grind (arith, common_steps, builtin_timer_view)
 
-pub builtin-returns-in_ok-new-in-Timer-clause-faults : goal.builtin-returns-in_ok-new-in-Timer-clause-faults
-builtin-returns-in_ok-new-in-Timer-clause-faults t c = grind (arith, common_steps, builtin_timer_view)
+pub builtin-returns-in_ok-known-in-Timer-clause-faults : goal.builtin-returns-in_ok-known-in-Timer-clause-faults
+builtin-returns-in_ok-known-in-Timer-clause-faults t c = grind (arith, common_steps, builtin_timer_view)
 
-pub builtin-returns-in_ok-new-in-AnyChannel-clause-found : goal.builtin-returns-in_ok-new-in-AnyChannel-clause-found
-builtin-returns-in_ok-new-in-AnyChannel-clause-found t c = grind (arith, common_steps, builtin_any_channel_view)
+pub builtin-returns-in_ok-known-in-AnyChannel-clause-found : goal.builtin-returns-in_ok-known-in-AnyChannel-clause-found
+builtin-returns-in_ok-known-in-AnyChannel-clause-found t c = grind (arith, common_steps, builtin_any_channel_view)
 
-pub builtin-returns-in_ok-new-in-AnyChannel-clause-faults : goal.builtin-returns-in_ok-new-in-AnyChannel-clause-faults
-builtin-returns-in_ok-new-in-AnyChannel-clause-faults t c = grind (arith, common_steps, builtin_any_channel_view)
+pub builtin-returns-in_ok-known-in-AnyChannel-clause-faults : goal.builtin-returns-in_ok-known-in-AnyChannel-clause-faults
+builtin-returns-in_ok-known-in-AnyChannel-clause-faults t c = grind (arith, common_steps, builtin_any_channel_view)
 
 pub segment_within-returns-clause-kind : goal.segment_within-returns-clause-kind
 segment_within-returns-clause-kind t c = grind (arith, common_steps)
@@ -488,13 +488,13 @@ segment_within-returns-clause-selector t c = grind (arith, common_steps)
 pub segment_within-returns-clause-faults : goal.segment_within-returns-clause-faults
 segment_within-returns-clause-faults t c = grind (arith, common_steps)
 
-pub array_over-returns-clause-found : goal.array_over-returns-clause-found
+pub known_array_over-returns-clause-found : goal.known_array_over-returns-clause-found
 unfolding array_after
-array_over-returns-clause-found t c = grind (arith, common_steps)
+known_array_over-returns-clause-found t c = grind (arith, common_steps)
 
-pub array_over-returns-clause-faults : goal.array_over-returns-clause-faults
+pub known_array_over-returns-clause-faults : goal.known_array_over-returns-clause-faults
 unfolding array_after
-array_over-returns-clause-faults t c = grind (arith, common_steps)
+known_array_over-returns-clause-faults t c = grind (arith, common_steps)
 
 pub after_a_fault-returns : goal.after_a_fault-returns
 unfolding after_a_fault
@@ -618,13 +618,13 @@ pub read_component-returns-clause-faults : goal.read_component-returns-clause-fa
 unfolding component
 read_component-returns-clause-faults t c = grind (arith, common_steps)
 
-pub data_form-returns-clause-found : goal.data_form-returns-clause-found
+pub known_data_form-returns-clause-found : goal.known_data_form-returns-clause-found
 unfolding data_form
-data_form-returns-clause-found t c = grind (arith, common_steps)
+known_data_form-returns-clause-found t c = grind (arith, common_steps)
 
-pub data_form-returns-clause-faults : goal.data_form-returns-clause-faults
+pub known_data_form-returns-clause-faults : goal.known_data_form-returns-clause-faults
 unfolding data_form
-data_form-returns-clause-faults t c = grind (arith, common_steps)
+known_data_form-returns-clause-faults t c = grind (arith, common_steps)
 
 pub dimensions-returns-clause-extents : goal.dimensions-returns-clause-extents
 dimensions-returns-clause-extents t c = grind (arith, common_steps)
@@ -801,7 +801,7 @@ composed-returns-in_ok-second-in-Pair-clause-faults t c =
 
 pub composed-returns-in_ok-reading-in-Converted-clause-faults : goal.composed-returns-in_ok-reading-in-Converted-clause-faults
 composed-returns-in_ok-reading-in-Converted-clause-faults t c =
-    step.conversion_faults c.converted.result _ _ _ _ _ _ _ _ _ _ _ _ _ _ (c.in-Converted.is ∙ ap (λ z. xv.Converted z c.in-Converted.word c.in-Converted.following) (sym c.as_slice-in-Converted.ensures) ∙ ap (λ z. xv.Converted c.as_slice-in-Converted.result.now z c.in-Converted.following) (sym c.get-in-Converted.ensures) ∙ ap (λ z. xv.Converted c.as_slice-in-Converted.result.now c.get-in-Converted.result.now z) (sym c.get-in-Converted-2.ensures)) c.in_ok-of-in-Converted.ensures.faults (c.known-of.ensures ∙ c.in_ok-of-in-Converted.ensures.found) c.new.ensures c.in_ok-to-in-Converted.ensures.faults c.in_ok-to-in-Converted.ensures.found c.in_ok-reading-in-Converted.ensures.faults c.in_ok-reading-in-Converted.ensures.term c.converted.ensures.faults
+    step.conversion_faults c.converted.result _ _ _ _ _ _ _ _ _ _ _ _ _ _ (c.in-Converted.is ∙ ap (λ z. xv.Converted z c.in-Converted.word c.in-Converted.following) (sym c.as_slice-in-Converted.ensures) ∙ ap (λ z. xv.Converted c.as_slice-in-Converted.result.now z c.in-Converted.following) (sym c.get-in-Converted.ensures) ∙ ap (λ z. xv.Converted c.as_slice-in-Converted.result.now c.get-in-Converted.result.now z) (sym c.get-in-Converted-2.ensures)) c.in_ok-of-in-Converted.ensures.faults (c.in_ok-of-in-Converted.ensures.found) c.new.ensures c.in_ok-to-in-Converted.ensures.faults c.in_ok-to-in-Converted.ensures.found c.in_ok-reading-in-Converted.ensures.faults c.in_ok-reading-in-Converted.ensures.term c.converted.ensures.faults
 
 pub composed-returns-in_ok-reading-in-ArrayConverted-clause-faults : goal.composed-returns-in_ok-reading-in-ArrayConverted-clause-faults
 composed-returns-in_ok-reading-in-ArrayConverted-clause-faults t c =

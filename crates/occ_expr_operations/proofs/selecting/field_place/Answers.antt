@@ -6,8 +6,8 @@ use Rattle.occ_expr_operations.proofs.selecting.field_place.Goals as goal
 pub returns : goal.returns
 returns c = grind (arith, common_steps, front_rules)
 
-pub returns-then-eq : goal.returns-then-eq
-returns-then-eq c = grind (arith, common_steps, front_rules)
+pub returns-then-is : goal.returns-then-is
+returns-then-is c = grind (arith, common_steps, front_rules)
 
 pub loop-field-preserved : goal.loop-field-preserved
 loop-field-preserved c = grind (arith, common_steps, front_rules)

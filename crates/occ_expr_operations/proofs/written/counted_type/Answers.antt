@@ -7,6 +7,6 @@ pub returns-in_default : goal.returns-in_default
 unfolding counted_type
 returns-in_default c = grind (arith, common_steps)
 
-pub returns-in_ok-channel-in-Some-Some : goal.returns-in_ok-channel-in-Some-Some
+pub returns-in_ok-counted_channel-in-Some-Some : goal.returns-in_ok-counted_channel-in-Some-Some
 unfolding counted_type
-returns-in_ok-channel-in-Some-Some c = grind (arith, common_steps)
+returns-in_ok-counted_channel-in-Some-Some c = grind (arith, common_steps)

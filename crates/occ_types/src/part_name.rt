@@ -1,4 +1,4 @@
-//! The names of tags. A name that is looked for is compared by a number first, which differs for most names.
+//! The names of fields and tags. A name that is looked for is compared by a number first, which differs for most names.
 #![tactic(auto, using(crate::proofs::Digests::digest_rules))]
 
 ghost use Rattle.std.specs.Prelude.{◌≡◌};
@@ -21,14 +21,14 @@ fn digest_of(bytes: &[u8]) -> u64
     digest
 }
 
-/// The name of a tag with its number: in contracts the name.
+/// The name of a field or a tag with its number: in contracts the name.
 #[derive(Drop)]
-pub struct TagName {
+pub struct PartName {
     name: Name,
     digest: u64,
 }
 
-impl Model for TagName {
+impl Model for PartName {
     ghost use Rattle.std.specs.Prelude.{List, ℕ};
     ghost use Rattle.std.specs.Coded.{coded_list, coded_ℕ};
 
@@ -36,50 +36,50 @@ impl Model for TagName {
 
     ghost coded = { coded_list coded_ℕ };
 
-    ghost use Rattle.occ_types.specs.inside.TagNames.{IsNumbered};
+    ghost use Rattle.occ_types.specs.inside.PartNames.{IsNumbered};
 
-    ghost view = { λ tag. tag.name };
+    ghost view = { λ part. part.name };
 
     ghost invariant = { IsNumbered };
 }
 
-/// A name that is looked for among tags, with its number: in contracts the name.
+/// A name that is looked for among fields or tags, with its number: in contracts the name.
 #[derive(Drop)]
-pub struct SoughtTag<'a> {
+pub struct SoughtPart<'a> {
     name: &'a Name,
     digest: u64,
 }
 
-impl<'a> Model for SoughtTag<'a> {
+impl<'a> Model for SoughtPart<'a> {
     ghost use Rattle.std.specs.Prelude.{List, ℕ};
 
     ghost Value = { List ℕ };
 
-    ghost use Rattle.occ_types.specs.inside.SoughtTags.{IsSought};
+    ghost use Rattle.occ_types.specs.inside.SoughtParts.{IsSought};
 
     ghost view = { λ sought. sought.name.now };
 
     ghost invariant = { IsSought };
 }
 
-impl<'a> SoughtTag<'a> {
+impl<'a> SoughtPart<'a> {
     /// This name is looked for.
-    pub fn new(name: &'a Name) -> SoughtTag<'a>
+    pub fn new(name: &'a Name) -> SoughtPart<'a>
         ensures { result ≡ name.now }
     {
-        SoughtTag {
+        SoughtPart {
             name,
             digest: digest_of(name.as_bytes()),
         }
     }
 }
 
-impl TagName {
+impl PartName {
     /// This name.
-    pub fn new(name: Name) -> TagName
+    pub fn new(name: Name) -> PartName
         ensures { result ≡ name }
     {
-        TagName {
+        PartName {
             digest: digest_of(name.as_bytes()),
             name,
         }
@@ -93,7 +93,7 @@ impl TagName {
     }
 
     /// Whether it is the name that is looked for.
-    pub fn is(&self, sought: &SoughtTag<'_>) -> bool
+    pub fn is(&self, sought: &SoughtPart<'_>) -> bool
         ensures { result ≡ bytes_eq self.now sought.now }
     {
         self.digest == sought.digest && self.name == *sought.name
