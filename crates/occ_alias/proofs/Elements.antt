@@ -13,9 +13,10 @@ use Rattle.occ_usage_values.specs.declared.bound.Bound.TheVariants as b
 use Rattle.occ_usage_values.specs.declared.uses.Use.{Use}
 use Rattle.occ_usage_conflicts.specs.Kinds.{is_read, is_write}
 use Rattle.occ_usage_conflicts.specs.ParallelRule.{root_name}
-use Rattle.occ_usage_lines.specs.Concern.{are_of, concerned, concerns_some, is_of}
-use Rattle.occ_usage_parts.specs.Parts.{overlap_of_selectors}
+use Rattle.occ_usage_lines.specs.Concern.{are_near, concerned, concerns_some, is_near, is_some, some_near}
+use Rattle.occ_usage_parts.specs.Parts.{overlap_of}
 use Rattle.occ_usage_parts.specs.Selecting.{part_of}
+use Rattle.occ_usage_parts.specs.declared.part.Overlap.{Overlap}
 use Rattle.occ_usage_parts.specs.declared.part.Overlap.TheVariants as o
 use Rattle.occ_usage_parts.specs.declared.part.Part.{Part}
 use Rattle.occ_usage_parts.specs.declared.place.SelectedPart.{SelectedPart}
@@ -29,15 +30,15 @@ right_false : (a c : Bool) → (a || c) ≡ false → c ≡ false
 right_false true c e = absurd (grind (arith, e))
 right_false false c e = e
 
--- ---- parts of different roots
+-- ---- parts that are apart
 
-of_other : (same : Bool) (line : Location) (c : Code) (env : Env) (p q : Part) → same ≡ false
-    → graded line c (root_name env p.root) (if same then overlap_of_selectors p.selectors q.selectors else o.Apart) ≡ []
-of_other true line c env p q e = absurd (grind (arith, e))
-of_other false line c env p q e = refl
+none_graded : (line : Location) (c : Code) (name : Option (List ℕ)) (found : Overlap) → is_some found ≡ false → graded line c name found ≡ []
+none_graded line c name o.Apart e = refl
+none_graded line c name o.May e = absurd (grind (arith, e))
+none_graded line c name o.Must e = absurd (grind (arith, e))
 
-apart : (line : Location) (c : Code) (env : Env) (p q : Part) → (p.root == q.root) ≡ false → pair_faults line c env p q ≡ []
-apart line c env p q e = of_other (p.root == q.root) line c env p q e
+apart : (line : Location) (c : Code) (env : Env) (p q : Part) → are_near p q ≡ false → pair_faults line c env p q ≡ []
+apart line c env p q e = none_graded line c (root_name env p.root) (overlap_of p q) e
 
 both : (ds es : List Diag) → ds ≡ [] → es ≡ [] → ds ++ es ≡ []
 both ds es e f = ap (λ (xs : List Diag). xs ++ es) e ∙ f
@@ -49,11 +50,11 @@ either : (by : Bool) (ds : List Diag) → ds ≡ [] → (if by then [] else ds) 
 either true ds e = refl
 either false ds e = e
 
-no_element : (n : ℕ) (env : Env) (p : Part) (us : List Use) → list_any (λ (u : Use). p.root == u.part.root) us ≡ false → element_faults n env p us ≡ []
+no_element : (n : ℕ) (env : Env) (p : Part) (us : List Use) → list_any (λ (u : Use). are_near p u.part) us ≡ false → element_faults n env p us ≡ []
 no_element n env p [] e = refl
 no_element n env p (u ∷ us) e =
-    let first = left_false (p.root == u.part.root) (list_any (λ (v : Use). p.root == v.part.root) us) e in
-    let rest = right_false (p.root == u.part.root) (list_any (λ (v : Use). p.root == v.part.root) us) e in
+    let first = left_false (are_near p u.part) (list_any (λ (v : Use). are_near p v.part) us) e in
+    let rest = right_false (are_near p u.part) (list_any (λ (v : Use). are_near p v.part) us) e in
     both (if list_any (λ (k : ℕ). k == n) u.chain then [] else pair_faults u.line code.A1 env p u.part) (element_faults n env p us)
     (either (list_any (λ (k : ℕ). k == n) u.chain) (pair_faults u.line code.A1 env p u.part) (apart u.line code.A1 env p u.part first))
     (no_element n env p us rest)
@@ -64,15 +65,15 @@ when : (w : Bool) (ds : List Diag) → ds ≡ [] → (if w then ds else []) ≡ 
 when true ds e = e
 when false ds e = refl
 
-none_of : (c : Code) (env : Env) (u : Use) (rs : List Use) → are_of u.part.root rs ≡ false → written_by c env u rs ≡ []
+none_of : (c : Code) (env : Env) (u : Use) (rs : List Use) → some_near u.part rs ≡ false → written_by c env u rs ≡ []
 none_of c env u [] e = refl
 none_of c env u (r ∷ rs) e =
     both (written_fault c env u r) (written_by c env u rs)
     (when (is_write u.kind && is_read r.kind) (pair_faults u.line c env u.part r.part)
-    (apart u.line c env u.part r.part (left_false (u.part.root == r.part.root) (are_of u.part.root rs) e)))
-    (none_of c env u rs (right_false (u.part.root == r.part.root) (are_of u.part.root rs) e))
+    (apart u.line c env u.part r.part (left_false (are_near u.part r.part) (some_near u.part rs) e)))
+    (none_of c env u rs (right_false (are_near u.part r.part) (some_near u.part rs) e))
 
-not_read : (writes : Bool) (c : Code) (env : Env) (u : Use) (rs : List Use) → is_write u.kind ≡ writes → (writes && are_of u.part.root rs) ≡ false → written_by c env u rs ≡ []
+not_read : (writes : Bool) (c : Code) (env : Env) (u : Use) (rs : List Use) → is_write u.kind ≡ writes → (writes && some_near u.part rs) ≡ false → written_by c env u rs ≡ []
 not_read true c env u rs w e = none_of c env u rs e
 not_read false c env u [] w e = refl
 not_read false c env u (r ∷ rs) w e =
@@ -83,10 +84,10 @@ not_read false c env u (r ∷ rs) w e =
 -- ---- one specification
 
 abbrev of_place : Option SelectedPart → Use → Bool
-of_place place u = is_of u.part.root place
+of_place place u = is_near u.part place
 
 abbrev writes_read : List Use → Use → Bool
-writes_read rs u = is_write u.kind && are_of u.part.root rs
+writes_read rs u = is_write u.kind && some_near u.part rs
 
 no_place : (n : ℕ) (env : Env) (place : Option SelectedPart) (us : List Use) → list_any (of_place place) us ≡ false → place_faults n env place us ≡ []
 no_place n env None us e = refl

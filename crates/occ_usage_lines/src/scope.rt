@@ -6,12 +6,12 @@ ghost use Rattle.std.specs.Ordering.{nat_cmp};
 ghost use Rattle.std.specs.Prelude.{[], length, take, true, IfOk, OnOk, slice_get, ℕ, ◌<◌, ◌≤◌, ◌≡◌, ◌++◌, ◌-◌, ◌∷◌, ◌||◌};
 ghost use Rattle.occ_usage_values.specs.declared.uses.Use.{Use as AUse};
 ghost use Rattle.occ_usage_conflicts.specs.Kinds.{is_write as spec_is_write};
-ghost use Rattle.occ_usage_lines.specs.Concern.{are_of as spec_are_of, concerned as spec_concerned, concerns as spec_concerns, concerns_some as spec_concerns_some, has_read as spec_has_read, is_of as spec_is_of, names_root as spec_names_root};
-ghost use Rattle.occ_usage_lines.specs.inside.Noting.{AreKept, AreKeptBelow, chosen as spec_chosen, concerns_at as spec_concerns_at, is_in, ends_from as spec_ends_from, is_noted, may_concern, noted as spec_noted};
+ghost use Rattle.occ_usage_lines.specs.Concern.{concerned as spec_concerned, concerns as spec_concerns, is_near as spec_is_near, is_some as spec_is_some, some_near as spec_some_near};
+ghost use Rattle.occ_usage_lines.specs.inside.Noting.{AreKept, AreKeptBelow, are_of as spec_are_of, concerns_one as spec_concerns_one, ends_from as spec_ends_from, has_read as spec_has_read, is_chosen, is_found, is_in, is_noted, is_of as spec_is_of, names_root as spec_names_root, noted as spec_noted};
 
 use occ_base::Items;
 use occ_types::UseKind;
-use occ_usage_parts::SelectedPart;
+use occ_usage_parts::{Overlap, Part, SelectedPart, overlap, overlap_selected};
 use occ_usage_values::{Bound, Use};
 use std::alloc::{AllocError, Global};
 use std::marker::Model;
@@ -108,9 +108,14 @@ impl UsageScope {
     pub fn concerned(&self, alloc: Global, uses: &[Use]) -> Result<Items<usize>, AllocError>
         ensures { IfOk result (λ numbers. numbers ≡ spec_concerned 0 self.now uses.now) }
     {
-        let mut numbers = candidates(alloc, self.named.as_slice(), self.read.as_slice(), uses)?;
+        let mut numbers = found(
+            alloc,
+            self.bounds.as_slice(),
+            self.named.as_slice(),
+            self.read.as_slice(),
+            uses,
+        )?;
         put_in_order(&mut numbers);
-        choose(&mut numbers, self.bounds.as_slice(), uses);
         Ok(Items::from_vec(numbers))
     }
 }
@@ -296,46 +301,110 @@ fn noted(lists: &[Items<usize>], root: usize) -> &[usize]
     }
 }
 
-/// Adds numbers.
-#[tactic(auto, using(crate::proofs::Choosing::in_both))]
-#[inline(always)]
-fn add(numbers: &mut Vec<usize>, more: &[usize]) -> Result<(), AllocError>
-    ensures { OnOk result ((n : ℕ) → is_in numbers.new.items n ≡ (is_in numbers.old.items n || is_in more.now n)) }
+/// Whether two parts with this overlap have something in common, perhaps.
+fn is_some(found: Overlap) -> bool
+    ensures { result ≡ spec_is_some found }
 {
-    if more.is_empty() {
-        return Ok(());
+    match found {
+        Overlap::Apart => false,
+        Overlap::May => true,
+        Overlap::Must => true,
     }
-    numbers.extend_from_slice(more)
 }
 
-/// Adds the numbers that may be those of specifications that concern a use.
-fn add_candidates(
+/// Whether a place is not apart from a part.
+fn is_near(place: &Option<SelectedPart>, part: &Part) -> bool
+    ensures { result ≡ spec_is_near part.now place.now }
+{
+    match place {
+        Some(place) => is_some(overlap_selected(place, part)),
+        None => false,
+    }
+}
+
+/// Whether one of these uses is of a part that is not apart from this one.
+fn some_near(uses: &[Use], part: &Part) -> bool
+    ensures { result ≡ spec_some_near part.now uses.now }
+{
+    uses.iter().any(|found| is_some(overlap(part, &found.part)))
+}
+
+/// Whether a specification concerns a use.
+fn concerns(bound: &Bound, found: &Use) -> bool
+    ensures { result ≡ spec_concerns bound.now found.now }
+{
+    match bound {
+        Bound::Abbreviation(place, _, reads) => {
+            is_near(place, &found.part)
+                || is_write(found.kind) && some_near(reads.as_slice(), &found.part)
+        }
+        Bound::Value(_, _, reads) => {
+            is_write(found.kind) && some_near(reads.as_slice(), &found.part)
+        }
+        Bound::Root(_) => false,
+        Bound::Body(_, _) => false,
+        Bound::Other => false,
+    }
+}
+
+/// Whether the specification with a number, if there is one, concerns a use.
+fn concerns_one(bounds: &[Bound], number: usize, found: &Use) -> bool
+    ensures { result ≡ spec_concerns_one (slice_get bounds.now number) found.now }
+{
+    match bounds.get(number) {
+        Some(bound) => concerns(bound, found),
+        None => false,
+    }
+}
+
+/// Adds those of the numbers that are those of specifications that concern a use.
+#[tactic(auto, using(crate::proofs::Choosing::chosen_more, crate::proofs::Choosing::chosen_same))]
+fn add_chosen(
+    bounds: &[Bound],
+    noted: &[usize],
+    found: &Use,
+    numbers: &mut Vec<usize>,
+) -> Result<(), AllocError>
+    ensures { OnOk result ((n : ℕ) → is_in numbers.new.items n ≡ (is_in numbers.old.items n || is_chosen bounds.now found.now noted.now n)) }
+{
+    for number in noted {
+        if concerns_one(bounds, *number, found) {
+            numbers.push(*number)?;
+        }
+    }
+    Ok(())
+}
+
+/// Adds the numbers of the specifications that concern a use.
+fn add_found(
+    bounds: &[Bound],
     named: &[Items<usize>],
     read: &[Items<usize>],
     found: &Use,
     numbers: &mut Vec<usize>,
 ) -> Result<(), AllocError>
-    ensures { OnOk result ((n : ℕ) → is_in numbers.new.items n ≡ (is_in numbers.old.items n || may_concern named.now read.now n found.now)) }
+    ensures { OnOk result ((n : ℕ) → is_in numbers.new.items n ≡ (is_in numbers.old.items n || is_found bounds.now named.now read.now n found.now)) }
 {
-    add(numbers, noted(named, found.part.root))?;
+    add_chosen(bounds, noted(named, found.part.root), found, numbers)?;
     if !is_write(found.kind) {
         return Ok(());
     }
-    add(numbers, noted(read, found.part.root))
+    add_chosen(bounds, noted(read, found.part.root), found, numbers)
 }
 
-/// The numbers that may be those of specifications that concern one of these uses, in no order, some perhaps more than once.
-fn candidates(
+/// The numbers of the specifications that concern one of these uses, in no order, some perhaps more than once.
+fn found(
     alloc: Global,
+    bounds: &[Bound],
     named: &[Items<usize>],
     read: &[Items<usize>],
     uses: &[Use],
 ) -> Result<Vec<usize>, AllocError>
-    ensures { IfOk result (λ numbers. (n : ℕ) → is_in numbers.items n ≡ list_any (may_concern named.now read.now n) uses.now) }
+    ensures { IfOk result (λ numbers. (n : ℕ) → is_in numbers.items n ≡ list_any (is_found bounds.now named.now read.now n) uses.now) }
 {
     let mut numbers = Vec::new(alloc);
-    for found in uses {
-        add_candidates(named, read, found, &mut numbers)?;
+    for one in uses {
+        add_found(bounds, named, read, one, &mut numbers)?;
     }
     Ok(numbers)
 }
@@ -347,66 +416,4 @@ fn put_in_order(numbers: &mut Vec<usize>)
 {
     numbers.sort_unstable();
     numbers.dedup();
-}
-
-/// Whether a place is of this root.
-fn is_of(place: &Option<SelectedPart>, root: usize) -> bool
-    ensures { result ≡ spec_is_of root place.now }
-{
-    match place {
-        Some(place) => place.root == root,
-        None => false,
-    }
-}
-
-/// Whether one of these uses is of a part of this root.
-fn are_of(uses: &[Use], root: usize) -> bool
-    ensures { result ≡ spec_are_of root uses.now }
-{
-    uses.iter().any(|found| root == found.part.root)
-}
-
-/// Whether a specification concerns a use.
-fn concerns(bound: &Bound, found: &Use) -> bool
-    ensures { result ≡ spec_concerns bound.now found.now }
-{
-    let root = found.part.root;
-    match bound {
-        Bound::Abbreviation(place, _, reads) => {
-            is_of(place, root) || is_write(found.kind) && are_of(reads.as_slice(), root)
-        }
-        Bound::Value(_, _, reads) => is_write(found.kind) && are_of(reads.as_slice(), root),
-        Bound::Root(_) => false,
-        Bound::Body(_, _) => false,
-        Bound::Other => false,
-    }
-}
-
-/// Whether a specification concerns one of these uses.
-fn concerns_some(bound: &Bound, uses: &[Use]) -> bool
-    ensures { result ≡ spec_concerns_some bound.now uses.now }
-{
-    for found in uses {
-        if concerns(bound, found) {
-            return true;
-        }
-    }
-    false
-}
-
-/// Whether the specification with a number, if there is one, concerns one of these uses.
-fn concerns_at(bounds: &[Bound], number: usize, uses: &[Use]) -> bool
-    ensures { result ≡ spec_concerns_at (slice_get bounds.now number) uses.now }
-{
-    match bounds.get(number) {
-        Some(bound) => concerns_some(bound, uses),
-        None => false,
-    }
-}
-
-/// Leaves those of the numbers that are those of specifications that concern one of these uses.
-fn choose(numbers: &mut Vec<usize>, bounds: &[Bound], uses: &[Use])
-    ensures { numbers.new.items ≡ spec_chosen bounds.now uses.now numbers.old.items }
-{
-    numbers.retain(|number| concerns_at(bounds, *number, uses));
 }

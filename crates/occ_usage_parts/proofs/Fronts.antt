@@ -93,6 +93,21 @@ sure_after (x ∷ f) (y ∷ q) i =
       by true false c d = refl
       by false b c d = refl
 
+-- ---- parts that differ where they begin
+
+pub first_apart : (a b : List PartSelector) (x y : PartSelector) → slice_get a 0 ≡ Some x → slice_get b 0 ≡ Some y → differ x y ≡ true → are_apart a b ≡ true
+first_apart [] b x y h i e = cc
+first_apart (p ∷ a) [] x y h i e = cc
+first_apart (p ∷ a) (q ∷ b) x y h i e =
+    let one : p ≡ x = grind (arith, h) in
+    let other : q ≡ y = grind (arith, i) in
+    by (has_empty (p ∷ a)) (has_empty (q ∷ b)) (differ p q) (some_differ a b) (ap (λ (z : PartSelector). differ z q) one ∙ ap (differ x) other ∙ e) where
+      by : (m n d r : Bool) → d ≡ true → (m || n || (d || r)) ≡ true
+      by true n d r k = refl
+      by false true d r k = refl
+      by false false true r k = refl
+      by false false false r k = cc
+
 -- ---- all places that follow a front
 
 all_meet : (f q : List PartSelector) (ps : List Places) → meets_some (all_ended f ps) q ≡ (not (are_apart f q) && meet_asked ps (asked (slice_get q (length f))))

@@ -1,13 +1,14 @@
 //! Whether two parts have an element in common: surely, perhaps, or not at all.
-ghost use Rattle.std.specs.Prelude.{◌≡◌, slice_get};
+ghost use Rattle.std.specs.Prelude.{◌≡◌, IsTrue, false, slice_get, true};
 ghost use Rattle.occ_usage_parts.specs.Keeping.{following};
+ghost use Rattle.occ_usage_parts.specs.Places.{meet};
 ghost use Rattle.occ_usage_parts.specs.Parts.{all_sure as spec_all_sure, are_apart as spec_are_apart, differ, has_empty, is_empty, is_sure, overlap_of, overlap_of_selectors as spec_overlap_of_selectors, some_differ};
 ghost use Rattle.occ_usage_parts.specs.Selecting.{part_of};
 ghost use Rattle.occ_usage_parts.specs.inside.Paths.{asked as spec_asked, asks, sure_beside};
 
 use super::part::{Overlap, Part};
 use super::place::{Ending, SelectedPart};
-use super::places::do_meet;
+use super::places::{do_meet, do_runs_meet};
 use occ_types::{Interval, Mark, PartSelector, Places};
 
 /// What two parts have in common.
@@ -36,11 +37,38 @@ pub fn overlap_selected(selected: &SelectedPart, part: &Part) -> Overlap
     }
 }
 
+/// Whether two sets of places are runs that do not meet.
+#[inline(always)]
+fn are_runs_apart(a: Places, b: Places) -> bool
+    ensures { IsTrue result → meet a b ≡ false }
+{
+    match (a, b) {
+        (Places::Run(a, n), Places::Run(b, m)) => !do_runs_meet(a, n, b, m),
+        _ => false,
+    }
+}
+
+/// Whether two parts of one root lie apart where they begin, as most do.
+#[tactic(auto, using(crate::proofs::Fronts::first_apart))]
+#[inline(always)]
+fn begin_apart(a: &[PartSelector], b: &[PartSelector]) -> bool
+    ensures { IsTrue result → spec_are_apart a.now b.now ≡ true }
+{
+    match (a.first(), b.first()) {
+        (Some(PartSelector::Interval(a)), Some(PartSelector::Interval(b))) => {
+            are_runs_apart(a.places, b.places)
+        }
+        (Some(PartSelector::Field(a)), Some(PartSelector::Field(b))) => a != b,
+        _ => false,
+    }
+}
+
 /// What two parts of one root have in common.
+#[inline(always)]
 fn overlap_of_selectors(a: &[PartSelector], b: &[PartSelector]) -> Overlap
     ensures { result ≡ spec_overlap_of_selectors a.now b.now }
 {
-    if are_apart(a, b) {
+    if begin_apart(a, b) || are_apart(a, b) {
         Overlap::Apart
     } else if all_sure(a, b) {
         Overlap::Must
@@ -68,7 +96,7 @@ fn is_apart(front: &[PartSelector], last: Interval, other: &[PartSelector]) -> b
     ensures { result ≡ spec_are_apart (following front.now last) other.now }
 {
     let depth = front.len();
-    are_apart(front, other) || !does_meet_asked(last, asked(other, depth))
+    !does_meet_asked(last, asked(other, depth)) || are_apart(front, other)
 }
 
 /// Whether at each common depth a part that is a front and an interval, and another one are sure.

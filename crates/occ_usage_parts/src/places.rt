@@ -42,7 +42,8 @@ pub(crate) fn intersection(a: Places, b: Places) -> Places
 }
 
 /// Whether two runs have a place in common: neither lies after the other.
-fn do_runs_meet(a: i64, n: u32, b: i64, m: u32) -> bool
+#[inline(always)]
+pub(crate) fn do_runs_meet(a: i64, n: u32, b: i64, m: u32) -> bool
     ensures { result ≡ meet (places.Run a n) (places.Run b m) }
 {
     i128::from(a) <= last(b, m) && i128::from(b) <= last(a, n)

@@ -1,11 +1,36 @@
 -- For each root the numbers of specifications that are noted with it.
 use Rattle.std.specs.Prelude.{◌≡◌, ◌<◌, ◌==◌, ℕ, Bool, true, false, ◌&&◌, ◌||◌, Option, Some, None, List, [], ◌-◌, length, slice_get, nat_le}
-use Rattle.std.specs.List.{filter, list_any}
+use Rattle.std.specs.List.{list_any}
 use Rattle.occ_usage_values.specs.declared.bound.Bound.{Bound}
+use Rattle.occ_usage_values.specs.declared.bound.Bound.TheVariants as b
 use Rattle.occ_usage_values.specs.declared.uses.Use.{Use}
 use Rattle.occ_usage_conflicts.specs.Kinds.{is_write}
-use Rattle.occ_usage_lines.specs.Concern.{concerns_some, has_read, names_root}
+use Rattle.occ_usage_parts.specs.declared.place.SelectedPart.{SelectedPart}
+use Rattle.occ_usage_lines.specs.Concern.{concerns, concerns_some, reads_of}
 use Rattle.occ_usage_lines.specs.declared.scope.UsageScope.TheInside.{Inside}
+
+-- a place of this root
+abbrev pub is_of : ℕ → Option SelectedPart → Bool
+is_of root None = false
+is_of root (Some p) = p.root == root
+
+-- a name for a part of this root
+abbrev pub names_root : ℕ → Bound → Bool
+names_root root (b.Abbreviation place size reads) = is_of root place
+names_root root (b.Value v size reads) = false
+names_root root (b.Root name) = false
+names_root root (b.Body uses does) = false
+names_root root b.Other = false
+
+-- one of these uses is of a part of this root
+abbrev pub are_of : ℕ → List Use → Bool
+are_of root us = list_any (λ (u : Use). root == u.part.root) us
+
+-- a part of this root is read where it is specified
+abbrev pub has_read : ℕ → Bound → Bool
+has_read root x = are_of root (reads_of x)
+
+-- ---- numbers that are noted
 
 abbrev pub Lists : Type 0
 Lists = List (List ℕ)
@@ -41,17 +66,22 @@ AreKept old new = (root n : ℕ) → is_noted old root n ≡ true → is_noted n
 abbrev pub AreKeptBelow : ℕ → Lists → Lists → Type 0
 AreKeptBelow depth old new = (root n : ℕ) → n < depth → is_noted old root n ≡ true → is_noted new root n ≡ true
 
--- a number that may be that of one that concerns a use
-abbrev pub may_concern : Lists → Lists → ℕ → Use → Bool
-may_concern named read n u = is_noted named u.part.root n || (is_write u.kind && is_noted read u.part.root n)
+-- the specification with a number concerns a use, or one of these
+abbrev pub concerns_one : Option Bound → Use → Bool
+concerns_one None u = false
+concerns_one (Some x) u = concerns x u
 
--- those of these numbers that are numbers of one that concerns one of these uses
 abbrev pub concerns_at : Option Bound → List Use → Bool
 concerns_at None us = false
 concerns_at (Some x) us = concerns_some x us
 
-abbrev pub chosen : List Bound → List Use → List ℕ → List ℕ
-chosen xs us ns = filter (λ (n : ℕ). concerns_at (slice_get xs n) us) ns
+-- a number of these, of one that concerns a use
+abbrev pub is_chosen : List Bound → Use → List ℕ → ℕ → Bool
+is_chosen xs u ns n = is_in ns n && concerns_one (slice_get xs n) u
+
+-- a number that is noted with the root of a use, of one that concerns it
+abbrev pub is_found : List Bound → Lists → Lists → ℕ → Use → Bool
+is_found xs named read n u = is_chosen xs u (noted named u.part.root) n || (is_write u.kind && is_chosen xs u (noted read u.part.root) n)
 
 abbrev pub is_from : ℕ → Option ℕ → Bool
 is_from depth None = false

@@ -1,6 +1,5 @@
 use Rattle.std.proofs.Common.{◌≡◌, ℕ, true, take}
-use Rattle.occ_usage_lines.specs.Concern.{are_of}
-use Rattle.occ_usage_lines.specs.inside.Noting.{AreKept, is_noted}
+use Rattle.occ_usage_lines.specs.inside.Noting.{AreKept, are_of, is_noted}
 use Rattle.occ_usage_lines.proofs.scope.note_uses.Given as goal
 
 abbrev pub invariant-loop-found : goal.invariant-loop-found

@@ -1,5 +1,5 @@
 use Rattle.occ_usage_lines.proofs.Noting.{entered_or_refused}
-use Rattle.occ_usage_lines.specs.Concern.{has_read, names_root}
+use Rattle.occ_usage_lines.specs.inside.Noting.{has_read, names_root}
 use Rattle.occ_usage_lines.proofs.scope.UsageScope.enter.Goals as goal
 
 pub invariant_of-self-2 : goal.invariant_of-self-2
