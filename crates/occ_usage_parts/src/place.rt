@@ -190,7 +190,10 @@ fn followed(
 ) -> Result<Items<PartSelector>, AllocError>
     ensures { IfOk result (λ all. all ≡ spec_followed before.now ending selectors.now) }
 {
-    let room = before.len().saturating_add(selectors.len()).saturating_add(1);
+    let room = before
+        .len()
+        .saturating_add(selectors.len())
+        .saturating_add(1);
     let mut all = Items::from_vec(Vec::with_capacity(alloc, room)?);
     add_copies(alloc, before, &mut all)?;
     match ending {
