@@ -1,3 +1,3 @@
 pub mod Elements
-pub mod Grading
+pub mod Repeating
 pub mod Sameness

@@ -1,6 +1,7 @@
 pub mod LineCalls
 pub mod AbbreviationRule
 pub mod Grades
+pub mod Repeated
 pub mod Reporting
 -- what no contract of a public call rests on
 pub mod inside

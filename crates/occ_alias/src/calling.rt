@@ -4,7 +4,8 @@ ghost use Rattle.std.specs.Prelude.{◌≡◌, ◌++◌, OnOk};
 ghost use Rattle.occ_alias.specs.AbbreviationRule.{actual_faults as spec_actual_faults, actuals_faults as spec_actuals_faults, call_faults as spec_call_faults, calls_faults as spec_calls_faults, free_fault as spec_free_fault, free_faults as spec_free_faults, place_pair as spec_place_pair, place_pairs as spec_place_pairs};
 
 use super::pairs::{faults_with_selected, pair_faults, written_faults};
-use occ_base::{Code, Diag, Items};
+use super::reported::Reported;
+use occ_base::Code;
 use occ_project::Location;
 use occ_usage_parts::{Part, SelectedPart};
 use occ_usage_values::{Bound, Call, Use, body_at};
@@ -17,7 +18,7 @@ fn place_pair(
     env: &[Bound],
     part: &Part,
     other: &Option<SelectedPart>,
-    faults: &mut Items<Diag>,
+    faults: &mut Reported,
 ) -> Result<(), AllocError>
     ensures { OnOk result (faults.new ≡ faults.old ++ spec_place_pair line.now env.now part.now other.now) }
 {
@@ -34,7 +35,7 @@ fn place_pairs(
     env: &[Bound],
     part: &Part,
     others: &[Option<SelectedPart>],
-    faults: &mut Items<Diag>,
+    faults: &mut Reported,
 ) -> Result<(), AllocError>
     ensures { OnOk result (faults.new ≡ faults.old ++ spec_place_pairs line.now env.now part.now others.now) }
 {
@@ -52,7 +53,7 @@ fn free_fault(
     env: &[Bound],
     part: &Part,
     found: &Use,
-    faults: &mut Items<Diag>,
+    faults: &mut Reported,
 ) -> Result<(), AllocError>
     ensures { OnOk result (faults.new ≡ faults.old ++ spec_free_fault line.now callee env.now part.now found.now) }
 {
@@ -70,7 +71,7 @@ fn free_faults(
     env: &[Bound],
     part: &Part,
     body: &[Use],
-    faults: &mut Items<Diag>,
+    faults: &mut Reported,
 ) -> Result<(), AllocError>
     ensures { OnOk result (faults.new ≡ faults.old ++ spec_free_faults line.now callee env.now part.now body.now) }
 {
@@ -89,7 +90,7 @@ fn actual_faults(
     body: &[Use],
     place: &Option<SelectedPart>,
     others: &[Option<SelectedPart>],
-    faults: &mut Items<Diag>,
+    faults: &mut Reported,
 ) -> Result<(), AllocError>
     ensures { OnOk result (faults.new ≡ faults.old ++ spec_actual_faults line.now callee env.now body.now place.now others.now) }
 {
@@ -109,7 +110,7 @@ fn actuals_faults(
     env: &[Bound],
     body: &[Use],
     places: &[Option<SelectedPart>],
-    faults: &mut Items<Diag>,
+    faults: &mut Reported,
 ) -> Result<(), AllocError>
     ensures { OnOk result (faults.new ≡ faults.old ++ spec_actuals_faults line.now callee env.now body.now places.now) }
 {
@@ -126,7 +127,7 @@ fn call_faults(
     line: &Location,
     env: &[Bound],
     call: &Call,
-    faults: &mut Items<Diag>,
+    faults: &mut Reported,
 ) -> Result<(), AllocError>
     ensures { OnOk result (faults.new ≡ faults.old ++ spec_call_faults line.now env.now call.now) }
 {
@@ -156,7 +157,7 @@ pub(crate) fn calls_faults(
     line: &Location,
     env: &[Bound],
     calls: &[Call],
-    faults: &mut Items<Diag>,
+    faults: &mut Reported,
 ) -> Result<(), AllocError>
     ensures { OnOk result (faults.new ≡ faults.old ++ spec_calls_faults line.now env.now calls.now) }
 {

@@ -7,6 +7,7 @@ mod grade;
 mod line;
 mod line_calls;
 mod pairs;
+mod reported;
 mod scope;
 
 pub use grade::graver;
@@ -15,3 +16,4 @@ pub use occ_usage_lines::{
     UsageScope, body_bound, each_effect, each_uses, enter_all, enter_index, enter_line,
     form_depends, form_effect, form_uses, index_value, is_write, number_after, used,
 };
+pub use reported::{Reported, Run, again};

@@ -5,8 +5,9 @@ ghost use Rattle.occ_alias.specs.LineCalls.{form_calls as spec_form_calls};
 
 use super::calling::calls_faults;
 use super::line_calls::{each_calls, form_calls};
+use super::reported::Reported;
 use super::scope::scope_faults;
-use occ_base::{Diag, Items, Shared};
+use occ_base::{Items, Shared};
 use occ_project::Location;
 use occ_scope::ScopeEntry;
 use occ_typing_rules::TypedExpr;
@@ -22,7 +23,7 @@ fn evaluated_faults(
     env: &UsageScope,
     uses: &[Use],
     calls: &[Call],
-    faults: &mut Items<Diag>,
+    faults: &mut Reported,
 ) -> Result<(), AllocError>
     ensures { OnOk result (faults.new ≡ faults.old ++ spec_evaluated_faults line.now env.now uses.now calls.now) }
 {
@@ -37,7 +38,7 @@ fn results_faults(
     results: &[Shared<TypedExpr>],
     line: &Location,
     env: &mut UsageScope,
-    faults: &mut Items<Diag>,
+    faults: &mut Reported,
 ) -> Result<(), AllocError>
     ensures faults { OnOk result (faults.new ≡ faults.old ++ spec_results_faults formals.now results.now env.old line.now) }
     ensures env { OnOk result (env.new ≡ env.old) }
@@ -60,7 +61,7 @@ fn form_faults(
     line: &Location,
     uses: &[Use],
     env: &UsageScope,
-    faults: &mut Items<Diag>,
+    faults: &mut Reported,
 ) -> Result<(), AllocError>
     ensures { OnOk result (faults.new ≡ faults.old ++ spec_evaluated_faults line.now env.now uses.now (spec_form_calls form.now env.now line.now)) }
 {
@@ -76,7 +77,7 @@ pub fn line_faults(
     line: &Location,
     uses: &[Use],
     env: &mut UsageScope,
-    faults: &mut Items<Diag>,
+    faults: &mut Reported,
 ) -> Result<(), AllocError>
     ensures faults { OnOk result (faults.new ≡ faults.old ++ reported_with form.now env.old line.now uses.now) }
     ensures env { OnOk result (env.new ≡ env.old) }

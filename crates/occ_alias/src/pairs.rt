@@ -6,7 +6,8 @@ ghost use Rattle.occ_usage_conflicts.specs.ParallelRule.{root_name as spec_root_
 ghost use Rattle.occ_usage_parts.specs.Parts.{overlap_of};
 ghost use Rattle.occ_usage_parts.specs.Selecting.{part_of};
 
-use occ_base::{Code, Diag, Grade, Items, Name};
+use super::reported::Reported;
+use occ_base::{Code, Diag, Grade, Name};
 use occ_project::Location;
 use occ_types::UseKind;
 use occ_usage_conflicts::root_name;
@@ -32,7 +33,7 @@ fn graded(
     code: Code,
     name: Option<Name>,
     found: Overlap,
-    faults: &mut Items<Diag>,
+    faults: &mut Reported,
 ) -> Result<(), AllocError>
     ensures { OnOk result (faults.new ≡ faults.old ++ spec_graded line.now code name found) }
 {
@@ -58,7 +59,7 @@ fn overlap_faults(
     env: &[Bound],
     root: usize,
     found: Overlap,
-    faults: &mut Items<Diag>,
+    faults: &mut Reported,
 ) -> Result<(), AllocError>
     ensures { OnOk result (faults.new ≡ faults.old ++ spec_graded line.now code (spec_root_name env.now root) found) }
 {
@@ -77,7 +78,7 @@ pub(crate) fn pair_faults(
     env: &[Bound],
     one: &Part,
     other: &Part,
-    faults: &mut Items<Diag>,
+    faults: &mut Reported,
 ) -> Result<(), AllocError>
     ensures { OnOk result (faults.new ≡ faults.old ++ spec_pair_faults line.now code env.now one.now other.now) }
 {
@@ -100,7 +101,7 @@ pub(crate) fn selected_faults(
     env: &[Bound],
     one: &SelectedPart,
     other: &Part,
-    faults: &mut Items<Diag>,
+    faults: &mut Reported,
 ) -> Result<(), AllocError>
     ensures { OnOk result (faults.new ≡ faults.old ++ spec_pair_faults line.now code env.now (part_of one.now) other.now) }
 {
@@ -130,7 +131,7 @@ pub(crate) fn faults_with_selected(
     env: &[Bound],
     one: &Part,
     other: &SelectedPart,
-    faults: &mut Items<Diag>,
+    faults: &mut Reported,
 ) -> Result<(), AllocError>
     ensures { OnOk result (faults.new ≡ faults.old ++ spec_pair_faults line.now code env.now one.now (part_of other.now)) }
 {
@@ -152,7 +153,7 @@ fn written_fault(
     env: &[Bound],
     found: &Use,
     read: &Use,
-    faults: &mut Items<Diag>,
+    faults: &mut Reported,
 ) -> Result<(), AllocError>
     ensures { OnOk result (faults.new ≡ faults.old ++ spec_written_fault code env.now found.now read.now) }
 {
@@ -177,7 +178,7 @@ fn written_by(
     env: &[Bound],
     found: &Use,
     reads: &[Use],
-    faults: &mut Items<Diag>,
+    faults: &mut Reported,
 ) -> Result<(), AllocError>
     ensures { OnOk result (faults.new ≡ faults.old ++ spec_written_by code env.now found.now reads.now) }
 {
@@ -194,7 +195,7 @@ pub(crate) fn written_faults(
     env: &[Bound],
     uses: &[Use],
     reads: &[Use],
-    faults: &mut Items<Diag>,
+    faults: &mut Reported,
 ) -> Result<(), AllocError>
     ensures { OnOk result (faults.new ≡ faults.old ++ spec_written_faults code env.now uses.now reads.now) }
 {

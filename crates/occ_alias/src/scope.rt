@@ -6,7 +6,8 @@ ghost use Rattle.occ_usage_parts.specs.Selecting.{part_of};
 ghost use Rattle.occ_alias.specs.inside.Choosing.{chosen_faults as spec_chosen_faults, numbered_faults as spec_numbered_faults};
 
 use super::pairs::{selected_faults, written_faults};
-use occ_base::{Code, Diag, Items};
+use super::reported::Reported;
+use occ_base::Code;
 use occ_usage_lines::UsageScope;
 use occ_usage_parts::SelectedPart;
 use occ_usage_values::{Bound, Use};
@@ -19,7 +20,7 @@ fn element_fault(
     env: &[Bound],
     element: &SelectedPart,
     found: &Use,
-    faults: &mut Items<Diag>,
+    faults: &mut Reported,
 ) -> Result<(), AllocError>
     ensures { OnOk result (faults.new ≡ faults.old ++ spec_element_fault number env.now (part_of element.now) found.now) }
 {
@@ -43,7 +44,7 @@ fn element_faults(
     env: &[Bound],
     element: &SelectedPart,
     uses: &[Use],
-    faults: &mut Items<Diag>,
+    faults: &mut Reported,
 ) -> Result<(), AllocError>
     ensures { OnOk result (faults.new ≡ faults.old ++ spec_element_faults number env.now (part_of element.now) uses.now) }
 {
@@ -60,7 +61,7 @@ fn place_faults(
     env: &[Bound],
     place: &Option<SelectedPart>,
     uses: &[Use],
-    faults: &mut Items<Diag>,
+    faults: &mut Reported,
 ) -> Result<(), AllocError>
     ensures { OnOk result (faults.new ≡ faults.old ++ spec_place_faults number env.now place.now uses.now) }
 {
@@ -77,7 +78,7 @@ fn bound_faults(
     env: &[Bound],
     bound: &Bound,
     uses: &[Use],
-    faults: &mut Items<Diag>,
+    faults: &mut Reported,
 ) -> Result<(), AllocError>
     ensures { OnOk result (faults.new ≡ faults.old ++ spec_bound_faults number env.now bound.now uses.now) }
 {
@@ -101,7 +102,7 @@ fn numbered_faults(
     number: usize,
     env: &[Bound],
     uses: &[Use],
-    faults: &mut Items<Diag>,
+    faults: &mut Reported,
 ) -> Result<(), AllocError>
     ensures { OnOk result (faults.new ≡ faults.old ++ spec_numbered_faults number env.now (slice_get env.now number) uses.now) }
 {
@@ -117,7 +118,7 @@ fn chosen_faults(
     numbers: &[usize],
     env: &[Bound],
     uses: &[Use],
-    faults: &mut Items<Diag>,
+    faults: &mut Reported,
 ) -> Result<(), AllocError>
     ensures { OnOk result (faults.new ≡ faults.old ++ spec_chosen_faults env.now uses.now numbers.now) }
 {
@@ -133,7 +134,7 @@ pub(crate) fn scope_faults(
     alloc: Global,
     env: &UsageScope,
     uses: &[Use],
-    faults: &mut Items<Diag>,
+    faults: &mut Reported,
 ) -> Result<(), AllocError>
     ensures { OnOk result (faults.new ≡ faults.old ++ spec_scope_faults 0 env.now env.now uses.now) }
 {

@@ -19,10 +19,10 @@ ghost use Rattle.occ_usage.specs.Trees.{head_of, trees_of, under as spec_under};
 
 use super::effect::{effect_under, is_body};
 use super::multiple::assignment_faults;
-use super::rounds::{add_times, alike_rounds};
+use super::rounds::{add_runs, add_times, alike_rounds};
 use occ_alias::{
-    UsageScope, body_bound, enter_all, enter_index, enter_line, form_uses, graver, index_value,
-    line_faults, number_after,
+    Reported, UsageScope, body_bound, enter_all, enter_index, enter_line, form_uses, graver,
+    index_value, line_faults, number_after,
 };
 use occ_base::{Diag, Items};
 use occ_scope::ScopeEntry;
@@ -40,7 +40,7 @@ pub(crate) struct Finding {
     /// What the parallel rule reports.
     parallel: Items<Diag>,
     /// What the abbreviation rule reports, with both grades.
-    abbreviations: Items<Diag>,
+    abbreviations: Reported,
 }
 
 impl Finding {
@@ -49,7 +49,7 @@ impl Finding {
     {
         Finding {
             parallel: Items::new(alloc),
-            abbreviations: Items::new(alloc),
+            abbreviations: Reported::nothing(alloc),
         }
     }
 }
@@ -417,9 +417,9 @@ fn alike_uses(
         known.count,
         &mut reported.parallel,
     )?;
-    add_times(
+    add_runs(
         alloc,
-        found.abbreviations.as_slice(),
+        found.abbreviations.runs(),
         known.count,
         &mut reported.abbreviations,
     )?;
@@ -530,7 +530,7 @@ fn own_uses(
     line: &TypedLine,
     env: &mut UsageScope,
     uses: &mut Items<Use>,
-    faults: &mut Items<Diag>,
+    faults: &mut Reported,
 ) -> Result<(), AllocError>
     ensures env { OnOk result (env.new ≡ env.old) }
     ensures uses { OnOk result (uses.new ≡ uses.old ++ spec_form_uses (head_of line.now).form env.old (head_of line.now).place) }
@@ -558,7 +558,7 @@ pub(crate) fn line(
     ensures parallel { OnOk result (reported.new.parallel ≡ reported.old.parallel ++ line_reported parallel_at env.old (head_of line.now) (spec_under line.now) (reported_of parallel_at (spec_under line.now))) }
     ensures abbreviations { OnOk result (reported.new.abbreviations ≡ reported.old.abbreviations ++ line_reported abbreviation_at env.old (head_of line.now) (spec_under line.now) (reported_of abbreviation_at (spec_under line.now))) }
 {
-    let mut faults = Items::new(alloc);
+    let mut faults = Reported::nothing(alloc);
     own_uses(alloc, line, env, uses, &mut faults)?;
     if is_body(line.form.get()) {
         return body_line(alloc, line, faults, env, reported);
@@ -576,7 +576,7 @@ pub(crate) fn line(
 fn body_line(
     alloc: Global,
     line: &TypedLine,
-    own: Items<Diag>,
+    own: Reported,
     env: &mut UsageScope,
     reported: &mut Finding,
 ) -> Result<(), AllocError>

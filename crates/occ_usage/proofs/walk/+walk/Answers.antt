@@ -96,5 +96,5 @@ alike_uses-returns-clause-parallel t c =
 
 pub alike_uses-returns-clause-abbreviations : goal.alike_uses-returns-clause-abbreviations
 alike_uses-returns-clause-abbreviations t c =
-    let told : c.add_times-2.new.all ≡ c.args.reported.now.abbreviations ++ times c.args.known.count (reported_of abbreviation_at (under c.args.line.now) (with_index c.args.env.now c.args.known.base 0)) = search rules in
+    let told : c.add_runs.new.all ≡ c.args.reported.now.abbreviations ++ times c.args.known.count (reported_of abbreviation_at (under c.args.line.now) (with_index c.args.env.now c.args.known.base 0)) = search rules in
     told ∙ ap (λ (ds : List Diag). c.args.reported.now.abbreviations ++ ds) (alike_abbreviations c.args.env.now (head_of c.args.line.now) (under c.args.line.now) c.args.known c.requires.known c.requires.alike)
