@@ -348,6 +348,7 @@ fn concerns(bound: &Bound, found: &Use) -> bool
 }
 
 /// Whether the specification with a number, if there is one, concerns a use.
+#[inline(never)]
 fn concerns_one(bounds: &[Bound], number: usize, found: &Use) -> bool
     ensures { result ≡ spec_concerns_one (slice_get bounds.now number) found.now }
 {
@@ -359,6 +360,7 @@ fn concerns_one(bounds: &[Bound], number: usize, found: &Use) -> bool
 
 /// Adds those of the numbers that are those of specifications that concern a use.
 #[tactic(auto, using(crate::proofs::Choosing::chosen_more, crate::proofs::Choosing::chosen_same))]
+#[inline(always)]
 fn add_chosen(
     bounds: &[Bound],
     noted: &[usize],
