@@ -33,8 +33,7 @@ use Rattle.occ_project_units.specs.Indices.{graph_of, indices_of}
 use Rattle.occ_project_units.specs.Project.{IsProject, put}
 use Rattle.occ_project_units.specs.Units.{read_names, used_units}
 use Rattle.occ_project_units.specs.declared.facts.Facts.{Facts}
-use Rattle.occ_project_units.specs.declared.lookers.Lookers.{Lookers}
-use Rattle.occ_project_units.specs.inside.Keeping.{AreLookers, IsMore, IsNoted, all_facts, facts_of}
+use Rattle.occ_project_units.specs.inside.Keeping.{AreLacking, AreLackingWith, IsLookingForNone, all_facts, facts_of}
 
 none_by : (b : Bool) → (b ≡ true → ⊥) → b ≡ false
 none_by true f = absurd (f refl)
@@ -259,7 +258,7 @@ mapped_none : (f : ℕ → ℕ) (o : Option ℕ) → option_map f o ≡ None →
 mapped_none f None h = refl
 mapped_none f (Some x) h = absurd cc
 
--- who looks for what, once a file is that none reads
+-- those look for one that is not there, once a file is that none reads, that did before, and perhaps the new one
 module _ (files : List Read) (file : Read) (at : ℕ) (gap : IsGap file.name files at) (unread : (p : ℕ) → p < length files → is_among (read_names files (name_at files p)) file.name ≡ false) (project : IsProject files) where
   facts_same : (p : ℕ) → p < length files → facts_of (put files file) (name_at files p) ≡ facts_of files (name_at files p)
   facts_same p lt = sym (facts_stay files (put files file) (name_at files p) file.name (put_others files file) (unread p lt))
@@ -280,6 +279,13 @@ module _ (files : List Read) (file : Read) (at : ℕ) (gap : IsGap file.name fil
       cc (here, none)) in
       mapped_none (raised at) (index name files) (sym (gap_then files file at gap name other) ∙ none)
 
+  still_none : (p : ℕ) → p < length files → IsLookingForNone files (name_at files p) → IsLookingForNone (put files file) (name_at (put files file) (raised at p))
+  still_none p lt before = subst (IsLookingForNone (put files file)) (sym (name_then p lt)) (λ name none.
+      let was = before name (absent_before name none) in (
+        ap (λ (names : List (List ℕ)). is_among names name) (reads_same p lt) ∙ was.0,
+        ap (λ (f : Facts). is_among f.uses name) (facts_same p lt) ∙ was.1,
+      ))
+
   index_before : (p : ℕ) → raised at p < length (put files file) → p < length files
   index_before p lt =
       let long = gap_long files file at gap in
@@ -289,21 +295,18 @@ module _ (files : List Read) (file : Read) (at : ℕ) (gap : IsGap file.name fil
         | inr above ↦ let e = raised_above at p above in omega (arith, lt, e, long)
       ]
 
-  module _ (lookers more : Lookers) (are : AreLookers files lookers) (m : IsMore lookers more) (new : IsNoted (put files file) file.name more) where
-    still_noted : (p : ℕ) → p < length files → IsNoted (put files file) (name_at (put files file) (raised at p)) more
-    still_noted p lt = subst (λ (n : List ℕ). IsNoted (put files file) n more) (sym (name_then p lt)) (λ name other.
-        let was = are p lt name other in (
-          λ k. m name (name_at files p) (was.0 (ap (λ (names : List (List ℕ)). is_among names name) (sym (reads_same p lt)) ∙ k)),
-          λ none k. m name (name_at files p) (was.1 (absent_before name none) (ap (λ (f : Facts). is_among f.uses name) (sym (facts_same p lt)) ∙ k)),
-        ))
-
-    pub lookers_then : AreLookers (put files file) more
-    lookers_then = λ p lt. elim (here_or at p) [
-      | inl e ↦ subst (λ (n : List ℕ). IsNoted (put files file) n more) (sym (ap (name_at (put files file)) e ∙ gap_name files file at gap)) new
-      | inr there ↦
-          let same = there.1 in
-          subst (λ (q : ℕ). IsNoted (put files file) (name_at (put files file) q) more) there.1 (still_noted there.0 (index_before there.0 (omega (arith, lt, same))))
-    ]
+  pub lacking_then : (lacking : Option (List ℕ)) → AreLackingWith files at lacking → AreLacking (put files file) lacking
+  lacking_then None h = tt
+  lacking_then (Some lacking) h = λ p lt. elim (here_or at p) [
+    | inl e ↦ inl (subst (λ (q : ℕ). graph.is_among lacking q ≡ true) (sym e) h.new)
+    | inr there ↦
+        let same = there.1 in
+        let within : there.0 < length files = index_before there.0 (omega (arith, lt, same)) in
+        elim (h.others there.0 within) [
+          | inl k ↦ inl (subst (λ (q : ℕ). graph.is_among lacking q ≡ true) there.1 k)
+          | inr none ↦ inr (subst (λ (q : ℕ). IsLookingForNone (put files file) (name_at (put files file) q)) there.1 (still_none there.0 within none))
+        ]
+  ]
 
 -- a file that has no index comes to those that are there
 pub put_longer : (files : List Read) (file : Read) → index file.name files ≡ None → length (put files file) ≡ length files + 1

@@ -16,6 +16,5 @@ pub mod Renewed
 pub mod Added
 pub mod Joins
 pub mod Lacking
-pub mod Looking
 pub mod Noting
 pub mod OtherReaders

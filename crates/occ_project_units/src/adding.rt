@@ -6,15 +6,13 @@ ghost use Rattle.occ_project_units.specs.New.{IsNew};
 ghost use Rattle.occ_project_units.specs.Indices.{graph_of, indices_of as spec_indices_of};
 ghost use Rattle.occ_project_units.specs.Project.{IsProject, put};
 ghost use Rattle.occ_project_units.specs.Units.{used_units};
-ghost use Rattle.occ_project_units.specs.inside.Keeping.{IsMore, IsNoted, all_facts as spec_all_facts, facts_of as spec_facts_of};
+ghost use Rattle.occ_project_units.specs.inside.Keeping.{all_facts as spec_all_facts, facts_of as spec_facts_of};
 ghost use Rattle.std.specs.List.{insert};
-ghost use Rattle.std.specs.Prelude.{◌≡◌, ◌<◌, ◌≤◌, ◌+◌, ◌⊎◌, IfOk, IsFalse, OnErr, OnOk, false, length, true};
+ghost use Rattle.std.specs.Prelude.{◌≡◌, ◌<◌, ◌≤◌, ◌+◌, ◌⊎◌, IfOk, IsFalse, IsTrue, OnErr, OnOk, false, length, true};
 
 use super::facts::{Facts, facts_of, indices_of, is_name_among};
 use super::inserting::insert_at;
-use super::lookers::Lookers;
 use super::project::Project;
-use super::seeking::note;
 use occ_base::{FileName, Shared};
 use occ_project::Read;
 use occ_project_graph::Linked;
@@ -35,13 +33,20 @@ pub fn may_use(facts: &Facts, edges: usize, name: FileName) -> bool
     edges != facts.uses.len() && is_name_among(facts.uses.as_slice(), name)
 }
 
+/// Whether a file from which so many edges lead looks for none that is not there: it reads itself alone, and all that it uses are
+/// there.
+pub fn is_whole(facts: &Facts, edges: usize) -> bool
+    ensures { IsTrue result → (length facts.now.reads ≤ 1) × (edges ≡ length facts.now.uses) }
+{
+    facts.reads.len() <= 1 && edges == facts.uses.len()
+}
+
 /// Adds what is known of the file at an index, which is new. What it uses is looked for first near what the file before it uses.
 fn add_known(
     alloc: Global,
     project: &Project,
     facts: &mut Vec<Shared<Facts>>,
     links: &mut Linked,
-    lookers: &mut Lookers,
     at: usize,
 ) -> Result<(), AllocError>
     requires within { at < length project.now }
@@ -49,15 +54,11 @@ fn add_known(
     requires links { length project.now ≡ length links.old + 1 }
     ensures facts { OnOk result (facts.new.items ≡ insert facts.old.items at (spec_facts_of project.now (name_at project.now at))) }
     ensures links { OnOk result (links.new ≡ with_node links.old at (spec_indices_of project.now (used_units project.now (name_at project.now at)))) }
-    ensures more { IsMore lookers.old lookers.new }
-    ensures noted { OnOk result (IsNoted project.now (name_at project.now at) lookers.new) }
     ensures err { OnErr result (facts.new.items ≡ facts.old.items × links.new ≡ links.old) }
 {
     let known = facts_of(alloc, project, at, project.name_at(at), &mut None)?;
     let hints = links.targets(at.saturating_sub(1));
     let targets = indices_of(alloc, project, 0, Some(&hints), known.uses.as_slice())?;
-    let are_there = targets.len() == known.uses.len();
-    note(alloc, lookers, project.name_at(at), &known, are_there)?;
     let shared = Shared::new(alloc, known)?;
     insert_at(facts, at, shared)?;
     match links.add(alloc, at, targets) {
@@ -76,7 +77,6 @@ pub fn add_file(
     project: &mut Project,
     facts: &mut Vec<Shared<Facts>>,
     links: &mut Linked,
-    lookers: &mut Lookers,
     at: usize,
     file: Read,
 ) -> Result<(), AllocError>
@@ -87,12 +87,10 @@ pub fn add_file(
     ensures project { OnOk result (project.new ≡ put project.old file) }
     ensures facts { OnOk result (facts.new.items ≡ spec_all_facts project.new) }
     ensures links { OnOk result (links.new ≡ graph_of project.new) }
-    ensures more { IsMore lookers.old lookers.new }
-    ensures noted { OnOk result (IsNoted project.new file.name lookers.new) }
     ensures err { OnErr result (project.new ≡ project.old × (facts.new.items ≡ facts.old.items × links.new ≡ links.old)) }
 {
     project.insert(alloc, at, file)?;
-    match add_known(alloc, project, facts, links, lookers, at) {
+    match add_known(alloc, project, facts, links, at) {
         Ok(()) => Ok(()),
         Err(refused) => {
             project.remove(at);

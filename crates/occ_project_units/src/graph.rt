@@ -1,6 +1,7 @@
 //! The graph of a project: what units read and use, circles, and how a used unit is found. Edits change it in place where
 //! they can.
 ghost use Rattle.occ_base.specs.FileName.{is_unit};
+ghost use Rattle.occ_project_graph.specs.Adding.{raised};
 ghost use Rattle.occ_project_graph.specs.Graph.{is_among as spec_is_among, rests as spec_rests, targets};
 ghost use Rattle.occ_project.specs.Entries.{is_among};
 ghost use Rattle.occ_project.specs.Reads.{index, index as spec_index};
@@ -10,20 +11,18 @@ ghost use Rattle.occ_project_units.specs.New.{IsNew};
 ghost use Rattle.occ_project_units.specs.Indices.{graph_of, is_circular as spec_is_circular, readers_at, standing_of, users_at};
 ghost use Rattle.occ_project_units.specs.Project.{file_of, put};
 ghost use Rattle.occ_project_units.specs.Units.{read_names, used_units};
-ghost use Rattle.occ_project_units.specs.inside.Keeping.{IsUnread, all_facts as spec_all_facts, facts_of as spec_facts_of};
+ghost use Rattle.occ_project_units.specs.inside.Keeping.{AreLacking, AreLackingThen, AreLackingWith, IsLookingForNone, IsUnread, all_facts as spec_all_facts, facts_of as spec_facts_of};
 ghost use Rattle.std.specs.Option.{is_some, option_and_then, option_copied, option_map};
-ghost use Rattle.std.specs.Prelude.{[], ◌∷◌, cond, false, get_or, IfOk, IfSome, IsFalse, IsTrue, MatchOption, None, OnErr, OnOk, Some, length, List, map, not, slice_get, true, ℕ, ◌&&◌, ◌≡◌, ◌<◌};
+ghost use Rattle.std.specs.Prelude.{[], ◌∷◌, cond, false, get_or, IfOk, IfSome, IsFalse, IsTrue, MatchOption, None, OnErr, OnOk, Some, length, List, map, not, slice_get, true, ℕ, ◌&&◌, ◌⊎◌, ◌≡◌, ◌<◌};
 
-use super::adding::{add_file, may_read, may_use};
-use super::facts::{Facts, all_facts, does_read, indices_of, place_or};
+use super::adding::{add_file, is_whole, may_read, may_use};
+use super::facts::{Facts, all_facts, does_read, place_or};
 use super::following::{all_facts_after, use_same};
-use super::joining::{add_used_file, users_among};
+use super::joining::{add_used_file, users_among, users_of};
 use super::links::links_of;
-use super::lookers::Lookers;
 use super::project::{Project, share};
 use super::readers::{find_readers, with_itself};
 use super::renewing::renew;
-use super::seeking::{lookers_of, note_readers};
 use super::standing::Standing;
 use occ_base::{FileName, Items, Shared};
 use occ_forms::Source;
@@ -41,6 +40,16 @@ fn row(rows: &[Items<usize>], index: usize) -> &[usize]
         Some(row) => row.as_slice(),
         None => &[],
     }
+}
+
+/// The index that the file at one of so many has, once a file comes to another.
+fn index_then(index: usize, at: usize, count: usize) -> usize
+    ensures { index < count → result ≡ raised at index }
+{
+    if index >= count {
+        return index;
+    }
+    if index >= at { index + 1 } else { index }
 }
 
 /// What is known of the file at an index, if there is one.
@@ -72,8 +81,8 @@ pub struct Graph {
     /// Of each file the indices of the others that read it, once they were asked for; after edits that leave all reads as they
     /// were they are the same.
     readers: Option<Items<Items<usize>>>,
-    /// Of each name the files among which are all others that read it, and all that use it if it is not there.
-    lookers: Lookers,
+    /// The indices of files among which are all that read or use one that is not there, if such are known.
+    lacking: Option<Items<usize>>,
 }
 
 /// Written out: crates above call it, where each would prove a derived one anew.
@@ -84,7 +93,7 @@ impl Drop for Graph {
             facts: _,
             links: _,
             readers: _,
-            lookers: _,
+            lacking: _,
         } = self;
     }
 }
@@ -106,7 +115,7 @@ impl Model for Graph {
 
     ghost view = { λ graph. graph.project };
 
-    ghost invariant = { λ graph. IsGraph graph.project graph.facts.items graph.links graph.readers graph.lookers };
+    ghost invariant = { λ graph. IsGraph graph.project graph.facts.items graph.links graph.readers graph.lacking };
 }
 
 /// The graph of a project, which it keeps.
@@ -115,13 +124,12 @@ fn keep(alloc: Global, project: Project) -> Result<Graph, AllocError>
 {
     let facts = all_facts(alloc, &project)?;
     let links = links_of(alloc, &project, facts.as_slice(), None, 0)?;
-    let lookers = lookers_of(alloc, &project, facts.as_slice())?;
     Ok(Graph {
         project,
         facts,
         links,
         readers: None,
-        lookers,
+        lacking: None,
     })
 }
 
@@ -135,7 +143,7 @@ impl Graph {
             facts: Vec::new(alloc),
             links: Linked::new(alloc),
             readers: None,
-            lookers: Lookers::new(alloc),
+            lacking: Some(Items::new(alloc)),
         }
     }
 
@@ -178,15 +186,12 @@ impl Graph {
         Some(at)
     }
 
-    /// Whether a file of the one name, if there is one, may read one of the other, which is not there.
-    fn may_file_read(&self, unit: FileName, name: FileName) -> bool
+    /// Whether the file at an index, if there is one, may read one of that name, which is not there.
+    fn may_read_at(&self, index: usize, name: FileName) -> bool
         requires { spec_index name self.now ≡ None }
-        ensures { IsFalse result → is_some (index unit self.now) ≡ true → is_among (read_names self.now unit) name ≡ false }
+        ensures { IsFalse result → index < length self.now → is_among (read_names self.now (name_at self.now index)) name ≡ false }
     {
-        match self.project.index(unit) {
-            Some(index) => self.may_read(index, name),
-            None => false,
-        }
+        index < self.project.files().len() && self.may_read(index, name)
     }
 
     /// Whether any file may read one of that name, which is not there.
@@ -194,10 +199,33 @@ impl Graph {
         requires { spec_index name self.now ≡ None }
         ensures { IsFalse result → (p : ℕ) → p < length self.now → is_among (read_names self.now (name_at self.now p)) name ≡ false }
     {
-        let _files = self.project.files();
-        let row = self.lookers.row(name);
-        for unit in row {
-            if self.may_file_read(*unit, name) {
+        match &self.lacking {
+            Some(indices) => self.may_one_read(indices.as_slice(), name),
+            None => self.may_all_read(name),
+        }
+    }
+
+    /// The same, where no file looks for one that is not there but those at these indices.
+    fn may_one_read(&self, indices: &[usize], name: FileName) -> bool
+        requires lacking { AreLacking self.now (Some indices.now) }
+        requires absent { spec_index name self.now ≡ None }
+        ensures { IsFalse result → (p : ℕ) → p < length self.now → is_among (read_names self.now (name_at self.now p)) name ≡ false }
+    {
+        for index in indices {
+            if self.may_read_at(*index, name) {
+                return true;
+            }
+        }
+        false
+    }
+
+    /// The same, where it is not known which do.
+    fn may_all_read(&self, name: FileName) -> bool
+        requires { spec_index name self.now ≡ None }
+        ensures { IsFalse result → (p : ℕ) → p < length self.now → is_among (read_names self.now (name_at self.now p)) name ≡ false }
+    {
+        for index in 0..self.project.files().len() {
+            if self.may_read(index, name) {
                 return true;
             }
         }
@@ -236,18 +264,19 @@ impl Graph {
             revision,
             source,
         };
+        let lacking = self.lacking_with(alloc, at)?;
         let marks = self.users_of(alloc, name)?;
         add_used_file(
             alloc,
             &mut self.project,
             &mut self.facts,
             &mut self.links,
-            &mut self.lookers,
             at,
             marks.as_slice(),
             file,
         )?;
         self.readers = None;
+        self.lacking = lacking;
         Ok(())
     }
 
@@ -272,15 +301,20 @@ impl Graph {
             &project,
             name,
         )?;
-        let found = self.links_after(alloc, &project, facts.as_slice(), name)?;
-        note_readers(alloc, &project, &mut self.lookers, facts.as_slice(), name)?;
-        self.project = project;
-        self.facts = facts;
-        self.readers = None;
-        let Some(links) = found else {
+        let Some(links) = self.links_after(alloc, &project, facts.as_slice(), name)? else {
+            self.project = project;
+            self.facts = facts;
+            self.readers = None;
+            self.lacking = None;
             return Ok(true);
         };
-        self.links = links;
+        *self = Graph {
+            project,
+            facts,
+            links,
+            readers: None,
+            lacking: None,
+        };
         Ok(false)
     }
 
@@ -301,16 +335,13 @@ impl Graph {
         may_use(facts, self.links.targets(index).count(), name)
     }
 
-    /// The same of a file of that name, if there is one.
-    fn may_file_look_for(&self, unit: FileName, name: FileName) -> bool
+    /// The same of the file at an index, if there is one.
+    fn may_look_for_at(&self, index: usize, name: FileName) -> bool
         requires { spec_index name self.now ≡ None }
-        ensures unread { IsFalse result → is_some (index unit self.now) ≡ true → is_among (read_names self.now unit) name ≡ false }
-        ensures unused { IsFalse result → is_some (index unit self.now) ≡ true → is_among (used_units self.now unit) name ≡ false }
+        ensures unread { IsFalse result → index < length self.now → is_among (read_names self.now (name_at self.now index)) name ≡ false }
+        ensures unused { IsFalse result → index < length self.now → is_among (used_units self.now (name_at self.now index)) name ≡ false }
     {
-        match self.project.index(unit) {
-            Some(index) => self.may_look_for(index, name),
-            None => false,
-        }
+        index < self.project.files().len() && self.may_look_for(index, name)
     }
 
     /// Whether any file may do so.
@@ -319,14 +350,97 @@ impl Graph {
         ensures unread { IsFalse result → (p : ℕ) → p < length self.now → is_among (read_names self.now (name_at self.now p)) name ≡ false }
         ensures unused { IsFalse result → (p : ℕ) → p < length self.now → is_among (used_units self.now (name_at self.now p)) name ≡ false }
     {
-        let _files = self.project.files();
-        let row = self.lookers.row(name);
-        for unit in row {
-            if self.may_file_look_for(*unit, name) {
+        match &self.lacking {
+            Some(indices) => self.may_one_look_for(indices.as_slice(), name),
+            None => self.may_all_look_for(name),
+        }
+    }
+
+    /// The same, where no file looks for one that is not there but those at these indices.
+    fn may_one_look_for(&self, indices: &[usize], name: FileName) -> bool
+        requires lacking { AreLacking self.now (Some indices.now) }
+        requires absent { spec_index name self.now ≡ None }
+        ensures unread { IsFalse result → (p : ℕ) → p < length self.now → is_among (read_names self.now (name_at self.now p)) name ≡ false }
+        ensures unused { IsFalse result → (p : ℕ) → p < length self.now → is_among (used_units self.now (name_at self.now p)) name ≡ false }
+    {
+        for index in indices {
+            if self.may_look_for_at(*index, name) {
                 return true;
             }
         }
         false
+    }
+
+    /// The same, where it is not known which do.
+    fn may_all_look_for(&self, name: FileName) -> bool
+        requires { spec_index name self.now ≡ None }
+        ensures unread { IsFalse result → (p : ℕ) → p < length self.now → is_among (read_names self.now (name_at self.now p)) name ≡ false }
+        ensures unused { IsFalse result → (p : ℕ) → p < length self.now → is_among (used_units self.now (name_at self.now p)) name ≡ false }
+    {
+        for index in 0..self.project.files().len() {
+            if self.may_look_for(index, name) {
+                return true;
+            }
+        }
+        false
+    }
+
+    /// Whether the file at an index, if there is one, is known to look for none that is not there.
+    fn is_whole(&self, index: usize) -> bool
+        ensures { IsTrue result → index < length self.now → IsLookingForNone self.now (name_at self.now index) }
+    {
+        let _files = self.project.files();
+        match facts_at(self.facts.as_slice(), index) {
+            Some(facts) => is_whole(facts, self.links.targets(index).count()),
+            None => false,
+        }
+    }
+
+    /// Adds the index that the file at one has, once a file comes to another index, unless it is known to look for none that is not
+    /// there.
+    fn add_lacking(
+        &self,
+        lacking: &mut Items<usize>,
+        at: usize,
+        index: usize,
+    ) -> Result<(), AllocError>
+        ensures more { OnOk result ((p : ℕ) → spec_is_among lacking.old p ≡ true → spec_is_among lacking.new p ≡ true) }
+        ensures this { OnOk result (index < length self.now → (spec_is_among lacking.new (raised at index) ≡ true) ⊎ IsLookingForNone self.now (name_at self.now index)) }
+    {
+        if self.is_whole(index) {
+            return Ok(());
+        }
+        lacking.push(index_then(index, at, self.project.files().len()))?;
+        Ok(())
+    }
+
+    /// The indices that files have, once one comes to an index, among which are its own and those of all that look for one that is not
+    /// there, where these are such indices before it.
+    fn lacking_of(
+        &self,
+        alloc: Global,
+        indices: &[usize],
+        at: usize,
+    ) -> Result<Items<usize>, AllocError>
+        requires { AreLacking self.now (Some indices.now) }
+        ensures { IfOk result (λ lacking. AreLackingThen self.now at lacking) }
+    {
+        let mut lacking = Items::new(alloc);
+        lacking.push(at)?;
+        for index in indices {
+            self.add_lacking(&mut lacking, at, *index)?;
+        }
+        Ok(lacking)
+    }
+
+    /// The same, if such are known.
+    fn lacking_with(&self, alloc: Global, at: usize) -> Result<Option<Items<usize>>, AllocError>
+        ensures { IfOk result (λ lacking. AreLackingWith self.now at lacking) }
+    {
+        match &self.lacking {
+            Some(indices) => Ok(Some(self.lacking_of(alloc, indices.as_slice(), at)?)),
+            None => Ok(None),
+        }
     }
 
     /// Of each file whether it uses one of that name, which is not there.
@@ -334,16 +448,11 @@ impl Graph {
         requires { spec_index name self.now ≡ None }
         ensures { IfOk result (λ marks. marks ≡ map (λ facts. is_among facts.uses name) (spec_all_facts self.now)) }
     {
-        let _files = self.project.files();
-        let files = self.lookers.row(name);
-        let indices = indices_of(alloc, &self.project, 0, None, files)?;
-        users_among(
-            alloc,
-            self.facts.as_slice(),
-            &self.links,
-            indices.as_slice(),
-            name,
-        )
+        let facts = self.facts.as_slice();
+        match &self.lacking {
+            Some(indices) => users_among(alloc, facts, &self.links, indices.as_slice(), name),
+            None => users_of(alloc, facts, &self.links, name),
+        }
     }
 
     /// Where a file of that name would stand, if there is none, and no file is found to read or use one.
@@ -377,16 +486,17 @@ impl Graph {
             revision,
             source,
         };
+        let lacking = self.lacking_with(alloc, at)?;
         add_file(
             alloc,
             &mut self.project,
             &mut self.facts,
             &mut self.links,
-            &mut self.lookers,
             at,
             file,
         )?;
         self.readers = None;
+        self.lacking = lacking;
         Ok(())
     }
 
@@ -443,6 +553,7 @@ impl Graph {
         }
         let _files = self.project.files();
         let again = Shared::new(alloc, share(file)?)?;
+        self.lacking = None;
         let alike = renew(
             alloc,
             &mut self.project,
@@ -454,28 +565,26 @@ impl Graph {
         Ok(alike)
     }
 
-    /// The same of a file that may be open as it was not.
-    fn set_unread(
-        &mut self,
-        alloc: Global,
-        index: usize,
-        readers: &[usize],
-        file: &Read,
-    ) -> Result<bool, AllocError>
-        requires index { spec_index file.now.name self.old ≡ Some index }
-        requires readers { readers.now ≡ readers_at self.old index }
+    /// The same of a file that at most one unit reads, itself for the most part, where it may be open as it was not.
+    fn set_unread(&mut self, alloc: Global, index: usize, file: &Read) -> Result<bool, AllocError>
+        requires { spec_index file.now.name self.old ≡ Some index }
         ensures ok { IfOk result (λ done. done ≡ true → self.new ≡ put self.old file.now) }
         ensures other { IfOk result (λ done. done ≡ false → self.new ≡ self.old) }
         ensures err { OnErr result (self.new ≡ self.old) }
     {
         let _files = self.project.files();
+        let readers = self.readers(alloc, index)?;
+        if readers.len() > 1 {
+            return Ok(false);
+        }
         let again = Shared::new(alloc, share(file)?)?;
+        self.lacking = None;
         let done = renew(
             alloc,
             &mut self.project,
             &mut self.facts,
             index,
-            readers,
+            readers.as_slice(),
             again,
         )?;
         Ok(done)
@@ -503,8 +612,7 @@ impl Graph {
         ensures ok { OnOk result (self.new ≡ put self.old file) }
         ensures err { OnErr result (self.new ≡ self.old) }
     {
-        let readers = self.readers(alloc, index)?;
-        if readers.len() <= 1 && self.set_unread(alloc, index, readers.as_slice(), &file)? {
+        if self.set_unread(alloc, index, &file)? {
             return Ok(());
         }
         self.put_read(alloc, file.name, file.revision, file.source)?;

@@ -6,16 +6,14 @@ ghost use Rattle.occ_project_units.specs.Along.{name_at};
 ghost use Rattle.occ_project.specs.Entries.{is_among};
 ghost use Rattle.occ_project_units.specs.Indices.{graph_of};
 ghost use Rattle.occ_project_units.specs.Project.{IsProject, put};
-ghost use Rattle.occ_project_units.specs.inside.Keeping.{IsJoining, IsMore, IsNoted, IsUnread, all_facts as spec_all_facts};
+ghost use Rattle.occ_project_units.specs.inside.Keeping.{IsJoining, IsUnread, all_facts as spec_all_facts};
 ghost use Rattle.std.specs.List.{insert};
 ghost use Rattle.std.specs.Prelude.{◌≡◌, ◌<◌, ◌≤◌, ℕ, IfOk, IsTrue, OnErr, OnOk, cond, false, get_or, length, map, slice_set, true};
 
 use super::facts::{Facts, facts_of, indices_of, is_name_among};
 use super::inserting::insert_at;
 use super::links::links_of;
-use super::lookers::Lookers;
 use super::project::Project;
-use super::seeking::note;
 use occ_base::{FileName, Items, Shared};
 use occ_project::Read;
 use occ_project_graph::Linked;
@@ -88,6 +86,23 @@ pub fn users_among(
     Ok(marks)
 }
 
+/// Of each file whether it uses one of that name.
+pub fn users_of(
+    alloc: Global,
+    all: &[Shared<Facts>],
+    links: &Linked,
+    name: FileName,
+) -> Result<Items<bool>, AllocError>
+    ensures { IfOk result (λ marks. marks ≡ map (λ facts. is_among facts.uses name) all.now) }
+{
+    let mut marks = Items::new(alloc);
+    for (index, facts) in all.iter().enumerate() {
+        let place = links.targets(index).count();
+        marks.push(does_use(facts.get(), place, name))?;
+    }
+    Ok(marks)
+}
+
 /// Adds what is known of the file at an index, which is new, and finds anew what rests on what.
 fn add_known_anew(
     alloc: Global,
@@ -148,7 +163,6 @@ fn add_known(
     project: &Project,
     facts: &mut Vec<Shared<Facts>>,
     links: &mut Linked,
-    lookers: &mut Lookers,
     at: usize,
     marks: &[bool],
 ) -> Result<(), AllocError>
@@ -156,20 +170,11 @@ fn add_known(
     requires marks { marks.now ≡ map (λ f. is_among f.uses (name_at project.now at)) facts.old.items }
     ensures facts { OnOk result (facts.new.items ≡ spec_all_facts project.now) }
     ensures links { OnOk result (links.new ≡ graph_of project.now) }
-    ensures more { IsMore lookers.old lookers.new }
-    ensures noted { OnOk result (IsNoted project.now (name_at project.now at) lookers.new) }
     ensures err { OnErr result (facts.new.items ≡ facts.old.items × links.new ≡ links.old) }
 {
     let name = project.name_at(at);
     let known = facts_of(alloc, project, at, name, &mut None)?;
     let targets = indices_of(alloc, project, 0, None, known.uses.as_slice())?;
-    note(
-        alloc,
-        lookers,
-        name,
-        &known,
-        targets.len() == known.uses.len(),
-    )?;
     let shared = Shared::new(alloc, known)?;
     if !targets.is_empty() {
         return add_known_anew(alloc, project, facts, links, at, shared);
@@ -184,7 +189,6 @@ pub fn add_used_file(
     project: &mut Project,
     facts: &mut Vec<Shared<Facts>>,
     links: &mut Linked,
-    lookers: &mut Lookers,
     at: usize,
     marks: &[bool],
     file: Read,
@@ -197,12 +201,10 @@ pub fn add_used_file(
     ensures project { OnOk result (project.new ≡ put project.old file) }
     ensures facts { OnOk result (facts.new.items ≡ spec_all_facts project.new) }
     ensures links { OnOk result (links.new ≡ graph_of project.new) }
-    ensures more { IsMore lookers.old lookers.new }
-    ensures noted { OnOk result (IsNoted project.new file.name lookers.new) }
     ensures err { OnErr result (project.new ≡ project.old × (facts.new.items ≡ facts.old.items × links.new ≡ links.old)) }
 {
     project.insert(alloc, at, file)?;
-    match add_known(alloc, project, facts, links, lookers, at, marks) {
+    match add_known(alloc, project, facts, links, at, marks) {
         Ok(()) => Ok(()),
         Err(refused) => {
             project.remove(at);

@@ -70,7 +70,6 @@ use Rattle.occ_board.specs.contracts.cached.Cached as cached
 use Rattle.occ_board.specs.contracts.waiting.Waiting as waiting
 use Rattle.occ_project_units.specs.contracts.project.Project as project
 use Rattle.occ_project_units.specs.contracts.facts.Facts as facts
-use Rattle.occ_project_units.specs.contracts.lookers.Lookers as lookers
 use Rattle.occ_project_graph.specs.contracts.linked.Linked as links
 use Rattle.sqlite_items.specs.contracts.items.Items as items_of
 use Rattle.occ_base.specs.contracts.diag.Diag as diag_of
@@ -522,11 +521,8 @@ numbers_send = items.the_send (items_of.the_row usize) row_send
 links_field_send : IsSend links.the_field.row
 links_field_send = search (sendable, Vec-send, row_send, number_send) depth 30
 
-lookers_field_send : IsSend lookers.the_field.row
-lookers_field_send = search (sendable, BTreeMap-send, Vec-send, items.the_send, file_name_cross.the_send) depth 30
-
 graph_field_send : IsSend graph.the_field.row
-graph_field_send = search (sendable, Vec-send, project_field_send, shared_facts_send, links_field_send, lookers_field_send, numbers_send, row_send) depth 30
+graph_field_send = search (sendable, Vec-send, project_field_send, shared_facts_send, links_field_send, numbers_send, row_send) depth 30
 
 cached_field_send : IsSend cached.the_field.row
 cached_field_send = search (sendable, Vec-send, BTreeMap-send, outcome_field_send, file_name_cross.the_send) depth 30

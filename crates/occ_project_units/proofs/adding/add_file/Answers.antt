@@ -12,7 +12,7 @@ use Rattle.occ_project_units.specs.Indices.{graph_of, indices_of}
 use Rattle.occ_project_units.specs.Project.{IsProject, put}
 use Rattle.occ_project_units.specs.Units.{used_units}
 use Rattle.occ_project_units.specs.declared.facts.Facts.{Facts}
-use Rattle.occ_project_units.specs.inside.Keeping.{IsNoted, all_facts, facts_of}
+use Rattle.occ_project_units.specs.inside.Keeping.{all_facts, facts_of}
 
 pub add_known-requires-clause-within : goal.add_known-requires-clause-within
 add_known-requires-clause-within c =
@@ -75,7 +75,3 @@ returns-in-Ok-clause-links c =
     ∙ ap (λ (name : List ℕ). with_node (graph_of files) at (indices_of (put files c.args.file) (used_units (put files c.args.file) name))) (name_new files c.args.file at c.requires.new)
     ∙ graph_then files c.args.file at c.requires.new
     ∙ sym (ap graph_of c.in_ok-insert.ensures.ok)
-
-pub returns-in-Ok-clause-noted : goal.returns-in-Ok-clause-noted
-returns-in-Ok-clause-noted c =
-    subst (λ (n : List ℕ). IsNoted c.insert.new.self n c.add_known.new.lookers) (ap (λ (fs : List Read). name_at fs c.args.at) c.in_ok-insert.ensures.ok ∙ name_new c.args.project.now c.args.file c.args.at c.requires.new) c.in-Ok.ensures.noted

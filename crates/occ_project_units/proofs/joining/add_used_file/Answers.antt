@@ -10,7 +10,7 @@ use Rattle.occ_project_units.specs.Along.{name_at}
 use Rattle.occ_project_units.specs.Indices.{graph_of}
 use Rattle.occ_project_units.specs.Project.{IsProject, put}
 use Rattle.occ_project_units.specs.declared.facts.Facts.{Facts}
-use Rattle.occ_project_units.specs.inside.Keeping.{IsJoining, IsNoted}
+use Rattle.occ_project_units.specs.inside.Keeping.{IsJoining}
 
 pub add_known-requires-clause-joining : goal.add_known-requires-clause-joining
 add_known-requires-clause-joining c =
@@ -41,7 +41,3 @@ pub add_known-requires-clause-marks : goal.add_known-requires-clause-marks
 add_known-requires-clause-marks c =
     let name : name_at c.insert.new.self c.args.at ≡ c.args.file.name = ap (λ (fs : List Read). name_at fs c.args.at) c.in_ok-insert.ensures.ok ∙ gap_name c.args.project.now c.args.file c.args.at c.requires.new.gap in
     c.requires.marks ∙ ap (λ (n : List ℕ). map (λ (f : Facts). is_among f.uses n) c.args.facts.now.items) (sym name)
-
-pub returns-in-Ok-clause-noted : goal.returns-in-Ok-clause-noted
-returns-in-Ok-clause-noted c =
-    subst (λ (n : List ℕ). IsNoted c.insert.new.self n c.add_known.new.lookers) (ap (λ (fs : List Read). name_at fs c.args.at) c.in_ok-insert.ensures.ok ∙ gap_name c.args.project.now c.args.file c.args.at c.requires.new.gap) c.in-Ok.ensures.noted

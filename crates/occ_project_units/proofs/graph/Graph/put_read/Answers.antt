@@ -1,10 +1,7 @@
-use Rattle.std.proofs.Common.{List, ap, rules, subst, sym, ◌∙◌}
-use Rattle.occ_project.specs.declared.reads.Read.{Read}
-use Rattle.occ_project_units.proofs.Looking.{lookers_put}
+use Rattle.std.proofs.Common.{subst, sym, ◌∙◌}
 use Rattle.occ_project_units.proofs.Sharing.{others_after, indices_after}
 use Rattle.occ_project_units.proofs.graph.Graph.put_read.Goals as goal
-use Rattle.occ_project_units.specs.Project.{IsProject, put}
-use Rattle.occ_project_units.specs.inside.Keeping.{AreLookers}
+use Rattle.occ_project_units.specs.Project.{IsProject}
 
 pub all_facts_after-requires-clause-others : goal.all_facts_after-requires-clause-others
 all_facts_after-requires-clause-others c =
@@ -15,27 +12,3 @@ pub links_after-requires-clause-indices : goal.links_after-requires-clause-indic
 links_after-requires-clause-indices c =
     indices_after c.args.self.now c.in_ok-project.project c.set.new.self (record { name = c.args.name; revision = c.args.revision; source = c.args.source }) (subst IsProject c.self.view_is c.files.ensures.in_order) c.in_ok-set.ensures.ok
     (c.in_ok-project.ensures ∙ c.self.view_is)
-
-pub invariant_of-self-in_default : goal.invariant_of-self-in_default
-invariant_of-self-in_default c =
-    let file : Read = record { name = c.args.name; revision = c.args.revision; source = c.args.source } in
-    record {
-      facts_are = search rules;
-      links_are = search rules;
-      readers_are = tt;
-      lookers_are = lookers_put c.args.self.now c.set.new.self file c.self.inside.lookers c.note_readers.new.lookers
-          (c.in_ok-set.ensures.ok ∙ ap (λ (fs : List Read). put fs file) (c.in_ok-project.ensures ∙ c.self.view_is))
-          (subst (λ (fs : List Read). AreLookers fs c.self.inside.lookers) c.self.view_is c.self.invariant.lookers_are) c.in_ok-note_readers.ensures.more c.in_ok-note_readers.ensures.noted;
-    }
-
-pub invariant_of-self-2 : goal.invariant_of-self-2
-invariant_of-self-2 c =
-    let file : Read = record { name = c.args.name; revision = c.args.revision; source = c.args.source } in
-    record {
-      facts_are = search rules;
-      links_are = search rules;
-      readers_are = tt;
-      lookers_are = lookers_put c.args.self.now c.set.new.self file c.self.inside.lookers c.note_readers.new.lookers
-          (c.in_ok-set.ensures.ok ∙ ap (λ (fs : List Read). put fs file) (c.in_ok-project.ensures ∙ c.self.view_is))
-          (subst (λ (fs : List Read). AreLookers fs c.self.inside.lookers) c.self.view_is c.self.invariant.lookers_are) c.in_ok-note_readers.ensures.more c.in_ok-note_readers.ensures.noted;
-    }

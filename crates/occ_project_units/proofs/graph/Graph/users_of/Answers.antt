@@ -1,14 +1,12 @@
-use Rattle.std.proofs.Common.{◌∙◌, List, ap, ℕ, subst, sym}
+use Rattle.std.proofs.Common.{◌∙◌, List, Some, ap, ℕ, subst, sym}
 use Rattle.occ_project.specs.declared.reads.Read.{Read}
-use Rattle.occ_project_units.proofs.Looking.{uses_found}
+use Rattle.occ_project_units.proofs.Lacking.{uses_lack}
 use Rattle.occ_project_units.proofs.graph.Graph.users_of.Goals as goal
-use Rattle.occ_project_units.specs.Indices.{indices_of}
-use Rattle.occ_project_units.specs.Project.{IsProject}
-use Rattle.occ_project_units.specs.inside.Keeping.{AreLookers, all_facts, looking_for}
+use Rattle.occ_project_units.specs.inside.Keeping.{AreLacking, all_facts}
 
 pub users_among-requires : goal.users_among-requires
 users_among-requires c = λ p none.
-    uses_found c.args.self.now c.as_slice.result.now (subst IsProject c.self.view_is c.files-files.ensures.in_order) c.self.inside.lookers c.args.name c.as_slice-2.result.now
-    (subst (λ (fs : List Read). AreLookers fs c.self.inside.lookers) c.self.view_is c.self.invariant.lookers_are) c.requires
-    (c.as_slice.ensures.value ∙ c.self.invariant.facts_are ∙ ap all_facts c.self.view_is)
-    (c.as_slice-2.ensures ∙ c.in_ok-indices.ensures ∙ ap (λ (names : List (List ℕ)). indices_of c.self.inside.project names) c.row-files.ensures ∙ ap (λ (fs : List Read). indices_of fs (looking_for c.self.inside.lookers c.args.name)) c.self.view_is) p none
+    uses_lack c.args.self.now c.as_slice-facts.result.now c.as_slice.result.now c.args.name (c.as_slice-facts.ensures.value ∙ c.self.invariant.facts_are ∙ ap all_facts c.self.view_is)
+    (subst (λ (ls : List ℕ). AreLacking c.args.self.now (Some ls)) (sym c.as_slice.ensures)
+    (subst (λ (fs : List Read). AreLacking fs (Some c.in-Some.indices)) c.self.view_is (subst (AreLacking c.self.inside.project) c.in-Some.is c.self.invariant.lacking_are)))
+    (λ q looks. (looks c.args.name c.requires).1) p none
