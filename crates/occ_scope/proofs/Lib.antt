@@ -4,3 +4,4 @@ pub mod Leaving
 pub mod Folded
 pub mod Begun
 pub mod Alike
+pub mod Taken

@@ -6,3 +6,4 @@ pub mod NumberedNames
 pub mod SoughtNames
 pub mod Begun
 pub mod Alike
+pub mod Taking

@@ -11,6 +11,7 @@ mod places;
 pub mod rows;
 mod scope;
 mod scopes;
+mod taking;
 
 pub use lookup::{Carried, carries, data_type, element};
 pub use meaning::{Access, Meaning, Referent, ScopeEntry, Whole, one_entry};

@@ -5,7 +5,7 @@
 ghost use Rattle.std.specs.Prelude.{◌≡◌, ◌⊎◌, ◌≤◌, ◌-◌, ◌++◌, ◌∷◌, [], IfOk, IsTrue, MatchOption, None, OnErr, OnOk, Some, length, take};
 ghost use Rattle.std.specs.Option.{option_copied};
 ghost use Rattle.std.specs.List.{slice_get};
-ghost use Rattle.occ_scope.specs.Elements.{type_at as spec_type_at};
+ghost use Rattle.occ_scope.specs.Elements.{formal_at as spec_formal_at, type_at as spec_type_at};
 
 use super::meaning::Meaning;
 use super::scopes::SpecId;
@@ -94,11 +94,21 @@ impl Meanings {
     }
 
     /// The type of the element that the specification of this number names.
-    fn type_at(&self, place: SpecId) -> Option<&OccType>
+    pub(crate) fn type_at(&self, place: SpecId) -> Option<&OccType>
         ensures { MatchOption result (spec_type_at self.now place ≡ None) (λ of. spec_type_at self.now place ≡ Some of.now) }
     {
         match self.meanings.get(place)?.get() {
             Meaning::Element(whole) => Some(whole.of.get()),
+            _ => None,
+        }
+    }
+
+    /// The type of a formal of the procedure that the specification of this number names.
+    pub(crate) fn formal_at(&self, place: SpecId, formal: usize) -> Option<&OccType>
+        ensures { MatchOption result (spec_formal_at self.now place formal ≡ None) (λ of. spec_formal_at self.now place formal ≡ Some of.now) }
+    {
+        match self.meanings.get(place)?.get() {
+            Meaning::Procedure(formals) => Some(formals.get().get(formal)?.of.get()),
             _ => None,
         }
     }

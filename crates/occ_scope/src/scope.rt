@@ -1,11 +1,11 @@
 //! The specifications in scope, each with its meaning. Names and meanings are two lists that grow and shrink together.
 ghost use Rattle.std.specs.Prelude.{◌≡◌, IfOk, IsTrue, MatchOption, None, OnErr, OnOk, Some, length};
 ghost use Rattle.occ_scope.specs.Visible.{back_to, entered, left, nothing, referent as spec_referent, visible, with_all};
-ghost use Rattle.occ_scope.specs.Elements.{type_of};
+ghost use Rattle.occ_scope.specs.Elements.{formal_of, type_of};
 
 use super::meaning::{Meaning, Referent, ScopeEntry};
-use super::meanings::Meanings;
 use super::scopes::Scopes;
+use super::taking::Taking;
 use occ_base::{Name, Shared};
 use std::alloc::{AllocError, Global};
 
@@ -13,7 +13,7 @@ use std::alloc::{AllocError, Global};
 #[derive(Drop)]
 pub struct Scope {
     names: Scopes,
-    meanings: Meanings,
+    meanings: Taking,
 }
 
 impl Scope {
@@ -23,7 +23,7 @@ impl Scope {
     {
         Scope {
             names: Scopes::new(alloc),
-            meanings: Meanings::new(alloc),
+            meanings: Taking::new(alloc),
         }
     }
 
@@ -102,6 +102,24 @@ impl Scope {
             return Ok(false);
         };
         self.meanings.are_of_one_type(a, b)
+    }
+
+    /// Whether a formal of the procedure that one name stands for is known to be of the type of the element that another
+    /// stands for, or is found to be.
+    pub fn takes(
+        &mut self,
+        procedure: &Name,
+        formal: usize,
+        actual: &Name,
+    ) -> Result<bool, AllocError>
+        ensures scope { self.new ≡ self.old }
+        ensures same { IfOk result (λ same. IsTrue same → formal_of (visible self.old procedure.now) formal ≡ type_of (visible self.old actual.now)) }
+    {
+        let (Some(procedure), Some(actual)) = (self.names.find(procedure), self.names.find(actual))
+        else {
+            return Ok(false);
+        };
+        self.meanings.takes(procedure, formal, actual)
     }
 
     /// The same of an entry.

@@ -107,12 +107,13 @@ fn instance_line(
     alloc: Global,
     first: &Expr,
     more: &[Expr],
-    scope: &Scope,
+    scope: &mut Scope,
     next: Parent,
     faults: &mut Items<Fault>,
 ) -> Result<Line, AllocError>
-    ensures line { IfOk result (λ line. line ≡ (spec_instance_line scope.now (first.now ∷ more.now) next).line) }
-    ensures faults { OnOk result (faults.new ≡ faults.old ++ (spec_instance_line scope.now (first.now ∷ more.now) next).faults) }
+    ensures line { IfOk result (λ line. line ≡ (spec_instance_line scope.old (first.now ∷ more.now) next).line) }
+    ensures scope { OnOk result (scope.new ≡ scope.old) }
+    ensures faults { OnOk result (faults.new ≡ faults.old ++ (spec_instance_line scope.old (first.now ∷ more.now) next).faults) }
 {
     let tree = instance(alloc, first, more, scope, faults)?;
     main(alloc, instance_form(tree), next)
@@ -124,13 +125,14 @@ pub fn expressions(
     form: &Shared<Form>,
     first: &Expr,
     more: &[Expr],
-    scope: &Scope,
+    scope: &mut Scope,
     parent: Parent,
     faults: &mut Items<Fault>,
 ) -> Result<Line, AllocError>
     requires { form.now ≡ forms.Expressions first.now more.now }
-    ensures line { IfOk result (λ line. line ≡ (spec_expressing scope.now first.now more.now parent).line) }
-    ensures faults { OnOk result (faults.new ≡ faults.old ++ (spec_expressing scope.now first.now more.now parent).faults) }
+    ensures line { IfOk result (λ line. line ≡ (spec_expressing scope.old first.now more.now parent).line) }
+    ensures scope { OnOk result (scope.new ≡ scope.old) }
+    ensures faults { OnOk result (faults.new ≡ faults.old ++ (spec_expressing scope.old first.now more.now parent).faults) }
 {
     let Parent { role, rounds } = parent;
     match role {

@@ -5,3 +5,4 @@ pub mod Times
 pub mod Both
 pub mod Fitting
 pub mod Named
+pub mod Taking

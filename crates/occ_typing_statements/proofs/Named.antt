@@ -60,7 +60,7 @@ reached_kind name (Some (m.Function formals results)) x is = absurd cc
 reached_kind name (Some (m.Element whole)) x is = written_kind whole.access whole.root (record { of = whole.of; value = whole.value }) x is
 
 -- a name that is known as a target has the type that is known of it
-target_type : (s : Scope) (name : List ℕ) (x : Known) → (target_of s (elements.Named name [])).kind ≡ k.Known x → type_of (visible s name) ≡ Some x.of
+pub target_type : (s : Scope) (name : List ℕ) (x : Known) → (target_of s (elements.Named name [])).kind ≡ k.Known x → type_of (visible s name) ≡ Some x.of
 unfolding target_of named_element
 target_type s name x is =
     reached_kind name (visible s name) x
@@ -89,18 +89,18 @@ found_kind s name (Some (m.Element whole)) of here is = record {
   known_or None value = k.Faulty
   known_or (Some t) value = known t value
 
-value_kind : (s : Scope) (name : List ℕ) (of : OccType) → type_of (visible s name) ≡ Some of → IsOf of (whole_element s name []).kind
+pub value_kind : (s : Scope) (name : List ℕ) (of : OccType) → type_of (visible s name) ≡ Some of → IsOf of (whole_element s name []).kind
 unfolding whole_element
 value_kind s name of is = found_kind s name (visible s name) of refl is
 
-said_alone : (s : Scope) (name : List ℕ) → (expr_view (exprs.Alone (operands.Element (elements.Named name [])))).said s ≡ single (whole_element s name [])
+pub said_alone : (s : Scope) (name : List ℕ) → (expr_view (exprs.Alone (operands.Element (elements.Named name [])))).said s ≡ single (whole_element s name [])
 said_alone s name =
     expr_alone_said (operands.Element (elements.Named name [])) s ∙ operand_element_whole (elements.Named name []) s
     ∙ ap single (element_named_whole name [] s)
 
 -- ---- the value for the target
 
-wanted_itself : (of : OccType) (value : Option Value) → (wanted of (known of value)).faults ≡ []
+pub wanted_itself : (of : OccType) (value : Option Value) → (wanted of (known of value)).faults ≡ []
 wanted_itself of value = ap (λ (b : Bool). (if b then record { faults = []; kind = known of value } else fault_of code.T2).faults) (fits_itself of)
 
 value_fits : (of : OccType) (kind : Kind) → is_data of ≡ true → IsOf of kind → value_for of (judged (v.Single kind)) ≡ []

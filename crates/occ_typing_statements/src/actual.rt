@@ -1,13 +1,18 @@
 //! Actuals of an instance of a PROC, one by one against its formals. `docs/LANGUAGE.md, Instances of PROCs`.
-ghost use Rattle.std.specs.Prelude.{◌≡◌, ◌++◌, IfOk, OnOk};
+ghost use Rattle.std.specs.Prelude.{◌≡◌, ◌++◌, [], IfOk, IsTrue, OnOk, Some};
+ghost use Rattle.occ_expr.specs.Targets.{target_of as spec_target_of};
 ghost use Rattle.occ_expr_operations.specs.Sides.{each_one as spec_each_one};
 ghost use Rattle.occ_expr_operations.specs.Views.{element_view, expr_view};
+ghost use Rattle.occ_scope.specs.Elements.{formal_of, type_of};
+ghost use Rattle.occ_scope.specs.Visible.{visible};
+ghost use Rattle.occ_scope.specs.declared.meaning.Meaning.TheVariants as m;
 ghost use Rattle.occ_typing_tables.specs.Terms.{alone as spec_alone, judged};
 ghost use Rattle.occ_typing_rules.specs.Placing.{placed as spec_placed};
 ghost use Rattle.occ_typing_statements.specs.Actuals.{actual_faults, actual_tree, actuals_faults, actuals_tree, another_number as spec_another_number, each_faults, each_tree, element_faults, element_in as spec_element_in, misplaced_value as spec_misplaced_value, no_element, one_actual, reference_faults, reference_tree, taken as spec_taken, value_by, value_of, variable_of, with_actuals};
 
-use super::takes::{element_in, takes};
-use occ_base::{Code, Fault, Items, Shared, report};
+use super::statement::{name_alone, name_of};
+use super::takes::{element_in, takes, takes_long};
+use occ_base::{Code, Fault, Items, Name, Shared, report};
 use occ_expr::{each_one, expression, target_of};
 use occ_expr_operations::Reading;
 use occ_forms_expressions::{Element, Expr};
@@ -41,19 +46,81 @@ fn variable_of(alloc: Global, tree: Option<TypedElement>) -> Result<Option<Typed
     }
 }
 
+/// Whether a formal of this type of the procedure of a name takes a name, by what is known of their types.
+fn takes_name(
+    callee: &Name,
+    place: usize,
+    of: &OccType,
+    name: &Name,
+    scope: &mut Scope,
+) -> Result<bool, AllocError>
+    requires { formal_of (visible scope.old callee.now) place ≡ Some of.now }
+    ensures takes { IfOk result (λ takes. IsTrue takes → type_of (visible scope.old name.now) ≡ Some of.now) }
+    ensures scope { scope.new ≡ scope.old }
+{
+    if !takes_long(of) {
+        return Ok(false);
+    }
+    scope.takes(callee, place, name)
+}
+
+/// Whether it takes an element so: nothing is reported of that then.
+fn takes_element(
+    callee: &Name,
+    place: usize,
+    of: &OccType,
+    element: &Element,
+    scope: &mut Scope,
+) -> Result<bool, AllocError>
+    requires { formal_of (visible scope.old callee.now) place ≡ Some of.now }
+    ensures takes { IfOk result (λ takes. IsTrue takes → (spec_taken of.now (spec_target_of scope.old element.now).kind).faults ≡ []) }
+    ensures scope { scope.new ≡ scope.old }
+{
+    let Some(name) = name_of(element) else {
+        return Ok(false);
+    };
+    let takes = takes_name(callee, place, of, name, scope)?;
+    Ok(takes)
+}
+
+/// Whether it takes a value so: nothing is reported of that then.
+fn takes_value(
+    callee: &Name,
+    place: usize,
+    of: &OccType,
+    expr: &Expr,
+    scope: &mut Scope,
+) -> Result<bool, AllocError>
+    requires { formal_of (visible scope.old callee.now) place ≡ Some of.now }
+    ensures takes { IfOk result (λ takes. IsTrue takes → ((judged ((expr_view expr.now).said scope.old).term).under of.now).faults ≡ []) }
+    ensures scope { scope.new ≡ scope.old }
+{
+    let Some(name) = name_alone(expr) else {
+        return Ok(false);
+    };
+    let takes = takes_name(callee, place, of, name, scope)?;
+    Ok(takes)
+}
+
 /// An element, for a formal of this type that is not VAL.
 fn element_actual(
     alloc: Global,
+    callee: &Name,
+    place: usize,
     of: &OccType,
     element: &Element,
-    scope: &Scope,
+    scope: &mut Scope,
     faults: &mut Items<Fault>,
 ) -> Result<Option<TypedActual>, AllocError>
-    ensures tree { IfOk result (λ actual. actual ≡ variable_of ((element_view element.now).tree scope.now)) }
-    ensures faults { OnOk result (faults.new ≡ faults.old ++ element_faults scope.now of.now element.now) }
+    requires { formal_of (visible scope.old callee.now) place ≡ Some of.now }
+    ensures tree { IfOk result (λ actual. actual ≡ variable_of ((element_view element.now).tree scope.old)) }
+    ensures scope { OnOk result (scope.new ≡ scope.old) }
+    ensures faults { OnOk result (faults.new ≡ faults.old ++ element_faults scope.old of.now element.now) }
 {
     let read = target_of(alloc, element, scope, faults)?;
-    taken(of, &read.kind, faults)?;
+    if !takes_element(callee, place, of, element, scope)? {
+        taken(of, &read.kind, faults)?;
+    }
     variable_of(alloc, read.tree)
 }
 
@@ -86,16 +153,20 @@ fn misplaced_value(
 /// An actual for a formal of this type that is not VAL.
 fn reference_actual(
     alloc: Global,
+    callee: &Name,
+    place: usize,
     of: &OccType,
     expr: &Expr,
-    scope: &Scope,
+    scope: &mut Scope,
     faults: &mut Items<Fault>,
 ) -> Result<Option<TypedActual>, AllocError>
-    ensures tree { IfOk result (λ actual. actual ≡ reference_tree scope.now (spec_element_in scope.now expr.now)) }
-    ensures faults { OnOk result (faults.new ≡ faults.old ++ reference_faults scope.now of.now expr.now (spec_element_in scope.now expr.now)) }
+    requires { formal_of (visible scope.old callee.now) place ≡ Some of.now }
+    ensures tree { IfOk result (λ actual. actual ≡ reference_tree scope.old (spec_element_in scope.old expr.now)) }
+    ensures scope { OnOk result (scope.new ≡ scope.old) }
+    ensures faults { OnOk result (faults.new ≡ faults.old ++ reference_faults scope.old of.now expr.now (spec_element_in scope.old expr.now)) }
 {
     match element_in(scope, expr) {
-        Some(element) => element_actual(alloc, of, element, scope, faults),
+        Some(element) => element_actual(alloc, callee, place, of, element, scope, faults),
         None => {
             misplaced_value(alloc, expr, scope, faults)?;
             Ok(None)
@@ -103,17 +174,21 @@ fn reference_actual(
     }
 }
 
-/// An actual of which this is read, for a VAL formal of this type.
+/// An actual of which this is read, for a VAL formal of this type, of which it may be known that it takes the actual.
 fn value_as(
     alloc: Global,
     of: &Shared<OccType>,
     read: &Reading,
+    is_taken: bool,
     faults: &mut Items<Fault>,
 ) -> Result<Option<TypedActual>, AllocError>
+    requires { IsTrue is_taken → ((judged read.now.term).under of.now).faults ≡ [] }
     ensures tree { IfOk result (λ actual. actual ≡ value_of (spec_placed read.now.open_expr of.now)) }
     ensures faults { OnOk result (faults.new ≡ faults.old ++ ((judged read.now.term).under of.now).faults) }
 {
-    under(alloc, &read.term, of, faults)?;
+    if !is_taken {
+        under(alloc, &read.term, of, faults)?;
+    }
     let Some(tree) = placed(alloc, &read.open_expr, of)? else {
         return Ok(None);
     };
@@ -123,34 +198,45 @@ fn value_as(
 /// An actual for a VAL formal of this type.
 fn value_actual(
     alloc: Global,
+    callee: &Name,
+    place: usize,
     of: &Shared<OccType>,
     expr: &Expr,
-    scope: &Scope,
+    scope: &mut Scope,
     faults: &mut Items<Fault>,
 ) -> Result<Option<TypedActual>, AllocError>
-    ensures tree { IfOk result (λ actual. actual ≡ value_of (spec_placed ((expr_view expr.now).open_expr scope.now) of.now)) }
-    ensures faults { OnOk result (faults.new ≡ faults.old ++ value_by of.now ((expr_view expr.now).said scope.now)) }
+    requires { formal_of (visible scope.old callee.now) place ≡ Some of.now }
+    ensures tree { IfOk result (λ actual. actual ≡ value_of (spec_placed ((expr_view expr.now).open_expr scope.old) of.now)) }
+    ensures scope { OnOk result (scope.new ≡ scope.old) }
+    ensures faults { OnOk result (faults.new ≡ faults.old ++ value_by of.now ((expr_view expr.now).said scope.old)) }
 {
+    let is_taken = takes_value(callee, place, of.get(), expr, scope)?;
     let read = expression(alloc, expr, scope, faults)?;
-    let actual = value_as(alloc, of, &read, faults);
+    let actual = value_as(alloc, of, &read, is_taken, faults);
     drop(read);
     actual
 }
 
-/// An actual for a formal.
+/// An actual for the formal at a place of the procedure of a name.
 fn actual(
     alloc: Global,
+    callee: &Name,
+    place: usize,
     formal: &Formal,
     expr: &Expr,
-    scope: &Scope,
+    scope: &mut Scope,
     faults: &mut Items<Fault>,
 ) -> Result<Option<TypedActual>, AllocError>
-    ensures tree { IfOk result (λ actual. actual ≡ actual_tree scope.now formal.now.of formal.now.passing expr.now) }
-    ensures faults { OnOk result (faults.new ≡ faults.old ++ actual_faults scope.now formal.now.of formal.now.passing expr.now) }
+    requires { formal_of (visible scope.old callee.now) place ≡ Some formal.now.of }
+    ensures tree { IfOk result (λ actual. actual ≡ actual_tree scope.old formal.now.of formal.now.passing expr.now) }
+    ensures scope { OnOk result (scope.new ≡ scope.old) }
+    ensures faults { OnOk result (faults.new ≡ faults.old ++ actual_faults scope.old formal.now.of formal.now.passing expr.now) }
 {
     match formal.passing {
-        Passing::Value => value_actual(alloc, &formal.of, expr, scope, faults),
-        Passing::Reference => reference_actual(alloc, formal.of.get(), expr, scope, faults),
+        Passing::Value => value_actual(alloc, callee, place, &formal.of, expr, scope, faults),
+        Passing::Reference => {
+            reference_actual(alloc, callee, place, formal.of.get(), expr, scope, faults)
+        }
     }
 }
 
@@ -172,23 +258,28 @@ fn with_actual(
 #[tactic(auto, using(crate::proofs::Fronts::front_rules))]
 fn each_actual(
     alloc: Global,
+    callee: &Name,
     formals: &[Formal],
     exprs: &[Expr],
-    scope: &Scope,
+    scope: &mut Scope,
     faults: &mut Items<Fault>,
 ) -> Result<Option<Items<TypedActual>>, AllocError>
-    ensures tree { IfOk result (λ all. all ≡ each_tree scope.now formals.now exprs.now) }
-    ensures faults { OnOk result (faults.new ≡ faults.old ++ each_faults scope.now formals.now exprs.now) }
+    requires { visible scope.old callee.now ≡ Some (m.Procedure formals.now) }
+    ensures tree { IfOk result (λ all. all ≡ each_tree scope.old formals.now exprs.now) }
+    ensures scope { OnOk result (scope.new ≡ scope.old) }
+    ensures faults { OnOk result (faults.new ≡ faults.old ++ each_faults scope.old formals.now exprs.now) }
 {
     let mut exprs = exprs;
+    let mut place = 0;
     let mut actuals = Some(Items::new(alloc));
     for formal in formals {
         let Some((expr, rest)) = exprs.split_first() else {
             return Ok(actuals);
         };
-        let next = actual(alloc, formal, expr, scope, faults)?;
+        let next = actual(alloc, callee, place, formal, expr, scope, faults)?;
         actuals = with_actual(actuals, next)?;
         exprs = rest;
+        place += 1;
     }
     Ok(actuals)
 }
@@ -206,20 +297,23 @@ fn another_number(
     of_another_number(alloc, read.terms.as_slice(), false, faults)
 }
 
-/// The actuals of an instance of a PROC with these formals, if none is missing or has a fault.
+/// The actuals of an instance of the PROC of a name, which has these formals, if none is missing or has a fault.
 #[tactic(auto, unfolding(crate::specs::Actuals::actuals_faults, crate::specs::Actuals::actuals_tree))]
 pub fn actuals(
     alloc: Global,
+    callee: &Name,
     formals: &[Formal],
     exprs: &[Expr],
-    scope: &Scope,
+    scope: &mut Scope,
     faults: &mut Items<Fault>,
 ) -> Result<Option<Items<TypedActual>>, AllocError>
-    ensures tree { IfOk result (λ all. all ≡ actuals_tree scope.now formals.now exprs.now) }
-    ensures faults { OnOk result (faults.new ≡ faults.old ++ actuals_faults scope.now formals.now exprs.now) }
+    requires { visible scope.old callee.now ≡ Some (m.Procedure formals.now) }
+    ensures tree { IfOk result (λ all. all ≡ actuals_tree scope.old formals.now exprs.now) }
+    ensures scope { OnOk result (scope.new ≡ scope.old) }
+    ensures faults { OnOk result (faults.new ≡ faults.old ++ actuals_faults scope.old formals.now exprs.now) }
 {
     if formals.len() == exprs.len() {
-        return each_actual(alloc, formals, exprs, scope, faults);
+        return each_actual(alloc, callee, formals, exprs, scope, faults);
     }
     another_number(alloc, exprs, scope, faults)?;
     Ok(None)

@@ -71,15 +71,17 @@ fn call(
     alloc: Global,
     name: &Name,
     exprs: &[Expr],
-    scope: &Scope,
+    scope: &mut Scope,
     faults: &mut Items<Fault>,
 ) -> Result<Option<TypedInstance>, AllocError>
-    ensures tree { IfOk result (λ tree. tree ≡ call_tree scope.now name.now exprs.now (visible scope.now name.now)) }
-    ensures faults { OnOk result (faults.new ≡ faults.old ++ call_faults scope.now name.now exprs.now (visible scope.now name.now)) }
+    ensures tree { IfOk result (λ tree. tree ≡ call_tree scope.old name.now exprs.now (visible scope.old name.now)) }
+    ensures scope { OnOk result (scope.new ≡ scope.old) }
+    ensures faults { OnOk result (faults.new ≡ faults.old ++ call_faults scope.old name.now exprs.now (visible scope.old name.now)) }
 {
     match scope.find(name) {
         Some(Meaning::Procedure(formals)) => {
-            let actuals = actuals(alloc, formals.get().as_slice(), exprs, scope, faults)?;
+            let formals = formals.share()?;
+            let actuals = actuals(alloc, name, formals.get().as_slice(), exprs, scope, faults)?;
             Ok(with_callee(scope.referent(name)?, actuals))
         }
         _ => {
@@ -95,11 +97,12 @@ pub fn instance(
     alloc: Global,
     first: &Expr,
     more: &[Expr],
-    scope: &Scope,
+    scope: &mut Scope,
     faults: &mut Items<Fault>,
 ) -> Result<Option<TypedInstance>, AllocError>
-    ensures tree { IfOk result (λ tree. tree ≡ instance_tree scope.now (first.now ∷ more.now)) }
-    ensures faults { OnOk result (faults.new ≡ faults.old ++ instance_faults scope.now (first.now ∷ more.now)) }
+    ensures tree { IfOk result (λ tree. tree ≡ instance_tree scope.old (first.now ∷ more.now)) }
+    ensures scope { OnOk result (scope.new ≡ scope.old) }
+    ensures faults { OnOk result (faults.new ≡ faults.old ++ instance_faults scope.old (first.now ∷ more.now)) }
 {
     match one_call(first, more) {
         Some((name, exprs)) => call(alloc, name, exprs, scope, faults),

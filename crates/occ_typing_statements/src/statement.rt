@@ -155,7 +155,7 @@ fn single_tree(
 }
 
 /// The name that an element is, without subscripts.
-fn name_of(element: &Element) -> Option<&Name>
+pub(super) fn name_of(element: &Element) -> Option<&Name>
     ensures { IfSome result (λ name. element.now ≡ elements.Named name.now []) }
 {
     match element {
@@ -170,7 +170,7 @@ fn name_of(element: &Element) -> Option<&Name>
 }
 
 /// The name that an expression is, without subscripts.
-fn name_alone(expr: &Expr) -> Option<&Name>
+pub(super) fn name_alone(expr: &Expr) -> Option<&Name>
     ensures { IfSome result (λ name. expr.now ≡ exprs.Alone (operands.Element (elements.Named name.now []))) }
 {
     let Expr::Alone(operand) = expr else {
