@@ -34,7 +34,7 @@ use Rattle.occ_usage_parts.specs.declared.part.Part.{Part}
 use Rattle.occ_usage_parts.specs.declared.place.SelectedPart.{SelectedPart}
 use Rattle.occ_usage_values.specs.Bounds.{Env, body_of}
 use Rattle.occ_usage_values.specs.Differing.{DifferAt, IsSame}
-use Rattle.occ_usage_values.specs.Naming.{element_depends, element_names, expr_depends, expr_names, exprs_depend}
+use Rattle.occ_usage_values.specs.Naming.{element_depends, expr_depends, exprs_depend}
 use Rattle.occ_usage_values.specs.Views.{actual_views}
 use Rattle.occ_usage_values.specs.declared.bound.Bound.{Bound}
 use Rattle.occ_usage_values.specs.declared.bound.Bound.TheVariants as b

@@ -1,7 +1,10 @@
 //! A4: the actuals of a call against each other, against what its body uses, and what they read against its writes.
 //! `docs/LANGUAGE.md, The abbreviation rule`.
-ghost use Rattle.std.specs.Prelude.{◌≡◌, ◌++◌, OnOk};
+ghost use Rattle.std.specs.Prelude.{◌≡◌, ◌++◌, [], IsFalse, List, OnOk};
 ghost use Rattle.occ_alias.specs.AbbreviationRule.{actual_faults as spec_actual_faults, actuals_faults as spec_actuals_faults, call_faults as spec_call_faults, calls_faults as spec_calls_faults, free_fault as spec_free_fault, free_faults as spec_free_faults, place_pair as spec_place_pair, place_pairs as spec_place_pairs};
+ghost use Rattle.occ_project.specs.declared.expanded.Location.{Location as ALocation};
+ghost use Rattle.occ_usage_parts.specs.declared.part.Part.{Part as APart};
+ghost use Rattle.occ_usage_values.specs.declared.bound.Bound.{Bound as ABound};
 
 use super::pairs::{faults_with_selected, pair_faults, written_faults};
 use super::reported::Reported;
@@ -28,6 +31,17 @@ fn place_pair(
     }
 }
 
+/// Whether an actual is of this root. Another has nothing in common with a part of the root.
+#[inline(always)]
+fn is_of_root(place: &Option<SelectedPart>, root: usize) -> bool
+    ensures { IsFalse result → (line : ALocation) (env : List ABound) (part : APart) → part.root ≡ root → spec_place_pair line env part place.now ≡ [] }
+{
+    match place {
+        Some(place) => place.root == root,
+        None => false,
+    }
+}
+
 /// What is reported of an actual with this part and those after it.
 fn place_pairs(
     alloc: Global,
@@ -40,7 +54,9 @@ fn place_pairs(
     ensures { OnOk result (faults.new ≡ faults.old ++ spec_place_pairs line.now env.now part.now others.now) }
 {
     for other in others {
-        place_pair(alloc, line, env, part, other, faults)?;
+        if is_of_root(other, part.root) {
+            place_pair(alloc, line, env, part, other, faults)?;
+        }
     }
     Ok(())
 }
@@ -57,7 +73,7 @@ fn free_fault(
 ) -> Result<(), AllocError>
     ensures { OnOk result (faults.new ≡ faults.old ++ spec_free_fault line.now callee env.now part.now found.now) }
 {
-    if found.part.root >= callee {
+    if found.part.root >= callee || found.part.root != part.root {
         return Ok(());
     }
     pair_faults(alloc, line, Code::A4, env, part, &found.part, faults)

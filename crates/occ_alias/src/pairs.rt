@@ -1,16 +1,19 @@
 //! Two parts that are not apart, as an error or a check; and writes of what was read (A2, A3).
-ghost use Rattle.std.specs.Prelude.{◌≡◌, ◌++◌, OnOk};
+ghost use Rattle.std.specs.Prelude.{◌≡◌, ◌++◌, ◌∷◌, [], List, MatchOption, OnOk, Option, ℕ};
 ghost use Rattle.occ_alias.specs.AbbreviationRule.{graded as spec_graded, pair_faults as spec_pair_faults, written_by as spec_written_by, written_fault as spec_written_fault, written_faults as spec_written_faults};
+ghost use Rattle.occ_base.specs.declared.code.Code.{Code as ACode};
+ghost use Rattle.occ_project.specs.declared.expanded.Location.{Location as ALocation};
+ghost use Rattle.occ_usage_parts.specs.declared.part.Overlap.TheVariants as o;
 ghost use Rattle.occ_usage_conflicts.specs.Kinds.{is_read as spec_is_read};
 ghost use Rattle.occ_usage_conflicts.specs.ParallelRule.{root_name as spec_root_name};
 ghost use Rattle.occ_usage_parts.specs.Parts.{overlap_of};
 ghost use Rattle.occ_usage_parts.specs.Selecting.{part_of};
 
 use super::reported::Reported;
-use occ_base::{Code, Diag, Grade, Name};
+use occ_base::{Code, Grade};
 use occ_project::Location;
 use occ_types::UseKind;
-use occ_usage_conflicts::root_name;
+use occ_usage_conflicts::name_of_root;
 use occ_usage_lines::is_write;
 use occ_usage_parts::{Overlap, Part, SelectedPart, overlap, overlap_selected};
 use occ_usage_values::{Bound, Use};
@@ -27,28 +30,15 @@ fn is_read(kind: UseKind) -> bool
     }
 }
 
-/// What is reported of two parts with this overlap.
-fn graded(
-    line: &Location,
-    code: Code,
-    name: Option<Name>,
-    found: Overlap,
-    faults: &mut Reported,
-) -> Result<(), AllocError>
-    ensures { OnOk result (faults.new ≡ faults.old ++ spec_graded line.now code name found) }
+/// With which grade parts with this overlap are reported, if they are.
+fn grade_of(found: Overlap) -> Option<Grade>
+    ensures { MatchOption result (found ≡ o.Apart) (λ grade. (line : ALocation) (code : ACode) (name : Option (List ℕ)) → spec_graded line code name found ≡ record { file = line.file; line = line.line; code = code; grade = grade; name = name } ∷ []) }
 {
-    let grade = match found {
-        Overlap::Apart => return Ok(()),
-        Overlap::May => Grade::Check,
-        Overlap::Must => Grade::Error,
-    };
-    faults.push(Diag {
-        file: *line.file.get(),
-        line: line.line,
-        code,
-        grade,
-        name,
-    })
+    match found {
+        Overlap::Apart => None,
+        Overlap::May => Some(Grade::Check),
+        Overlap::Must => Some(Grade::Error),
+    }
 }
 
 /// What is reported of parts with this overlap, the first of which has this root.
@@ -63,11 +53,10 @@ fn overlap_faults(
 ) -> Result<(), AllocError>
     ensures { OnOk result (faults.new ≡ faults.old ++ spec_graded line.now code (spec_root_name env.now root) found) }
 {
-    if found == Overlap::Apart {
-        return Ok(());
+    match grade_of(found) {
+        Some(grade) => faults.report(alloc, line, code, grade, name_of_root(env, root)),
+        None => Ok(()),
     }
-    let name = root_name(alloc, env, root)?;
-    graded(line, code, name, found, faults)
 }
 
 /// What is reported of two parts, if they are not apart.

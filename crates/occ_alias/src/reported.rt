@@ -1,8 +1,10 @@
 //! What is reported, in the order of reporting. What is reported several times in a row takes the room of one diagnostic.
+ghost use Rattle.std.specs.Option.{option_copied};
 ghost use Rattle.std.specs.Prelude.{◌≡◌, ◌++◌, ◌∷◌, ◌↔◌, [], IfOk, IsTrue, MatchOption, OnOk};
 ghost use Rattle.occ_alias.specs.Repeated.{all_diags, run_diags};
 
-use occ_base::{Diag, Items};
+use occ_base::{Code, Diag, Grade, Items, Name};
+use occ_project::Location;
 use std::alloc::{AllocError, Global};
 use std::marker::Model;
 
@@ -33,39 +35,63 @@ impl Model for Reported {
     ghost view = { λ reported. all_diags reported.runs };
 }
 
-/// Whether two diagnostics are of one line.
-fn is_same_line(a: &Diag, b: &Diag) -> bool
-    ensures file { IsTrue result → a.now.file ≡ b.now.file }
-    ensures line { IsTrue result → a.now.line ≡ b.now.line }
+/// Whether a diagnostic is of this line.
+fn is_of_line(diag: &Diag, line: &Location) -> bool
+    ensures file { IsTrue result → diag.now.file ≡ line.now.file }
+    ensures line { IsTrue result → diag.now.line ≡ line.now.line }
 {
-    a.line == b.line && a.file == b.file
+    diag.line == line.line && diag.file == *line.file.get()
 }
 
-/// Whether two diagnostics have one code and one grade.
-fn is_same_code(a: &Diag, b: &Diag) -> bool
-    ensures code { IsTrue result → a.now.code ≡ b.now.code }
-    ensures grade { IsTrue result → a.now.grade ≡ b.now.grade }
+/// Whether a diagnostic has this code and this grade.
+fn is_of_code(diag: &Diag, code: Code, grade: Grade) -> bool
+    ensures code { IsTrue result → diag.now.code ≡ code }
+    ensures grade { IsTrue result → diag.now.grade ≡ grade }
 {
-    a.code == b.code && a.grade == b.grade
+    diag.code == code && diag.grade == grade
 }
 
-/// Whether two diagnostics have one name.
-fn is_same_name(a: &Diag, b: &Diag) -> bool
-    ensures { IsTrue result → a.now.name ≡ b.now.name }
+/// Whether a diagnostic has this name, or none.
+fn is_named(diag: &Diag, name: Option<&Name>) -> bool
+    ensures { IsTrue result → diag.now.name ≡ option_copied name.entry }
 {
-    match (&a.name, &b.name) {
-        (Some(a), Some(b)) => a == b,
+    match (&diag.name, name) {
+        (Some(own), Some(name)) => own == name,
         (None, None) => true,
         _ => false,
     }
 }
 
-/// Whether two diagnostics are one.
+/// Whether a diagnostic is this one.
 #[tactic(auto, using(crate::proofs::Repeating::one_diag))]
-fn is_same(a: &Diag, b: &Diag) -> bool
-    ensures { IsTrue result → a.now ≡ b.now }
+fn is_that(diag: &Diag, line: &Location, code: Code, grade: Grade, name: Option<&Name>) -> bool
+    ensures { IsTrue result → diag.now ≡ record { file = line.now.file; line = line.now.line; code = code; grade = grade; name = option_copied name.entry } }
 {
-    is_same_line(a, b) && is_same_code(a, b) && is_same_name(a, b)
+    is_of_line(diag, line) && is_of_code(diag, code, grade) && is_named(diag, name)
+}
+
+/// This diagnostic, once.
+fn run_of(
+    alloc: Global,
+    line: &Location,
+    code: Code,
+    grade: Grade,
+    name: Option<&Name>,
+) -> Result<Run, AllocError>
+    ensures { IfOk result (λ run. run_diags run ≡ record { file = line.now.file; line = line.now.line; code = code; grade = grade; name = option_copied name.entry } ∷ []) }
+{
+    let name = match name {
+        Some(name) => Some(name.copied(alloc)?),
+        None => None,
+    };
+    let diag = Diag {
+        file: *line.file.get(),
+        line: line.line,
+        code,
+        grade,
+        name,
+    };
+    Ok(Run { diag, more: 0 })
 }
 
 /// The same diagnostic again.
@@ -124,14 +150,21 @@ impl Reported {
         self.runs.as_slice()
     }
 
-    /// One more is reported.
+    /// One more is reported. It is made only where another was reported last.
     #[tactic(auto, using(crate::proofs::Repeating::runs_last))]
-    pub fn push(&mut self, diag: Diag) -> Result<(), AllocError>
-        ensures { OnOk result (self.new ≡ self.old ++ diag ∷ []) }
+    pub(crate) fn report(
+        &mut self,
+        alloc: Global,
+        line: &Location,
+        code: Code,
+        grade: Grade,
+        name: Option<&Name>,
+    ) -> Result<(), AllocError>
+        ensures { OnOk result (self.new ≡ self.old ++ record { file = line.now.file; line = line.now.line; code = code; grade = grade; name = option_copied name.entry } ∷ []) }
     {
         match self.runs.pop() {
-            Some(last) => self.push_after(last, diag),
-            None => self.push_run(Run { diag, more: 0 }),
+            Some(last) => self.report_after(alloc, last, line, code, grade, name),
+            None => self.push_run(run_of(alloc, line, code, grade, name)?),
         }
     }
 
@@ -145,17 +178,26 @@ impl Reported {
 
     /// One is reported so often, and then one more.
     #[tactic(auto, using(crate::proofs::Repeating::one_more))]
-    fn push_after(&mut self, last: Run, diag: Diag) -> Result<(), AllocError>
-        ensures { OnOk result (self.new ≡ (self.old ++ run_diags last) ++ diag ∷ []) }
+    fn report_after(
+        &mut self,
+        alloc: Global,
+        last: Run,
+        line: &Location,
+        code: Code,
+        grade: Grade,
+        name: Option<&Name>,
+    ) -> Result<(), AllocError>
+        ensures { OnOk result (self.new ≡ (self.old ++ run_diags last) ++ record { file = line.now.file; line = line.now.line; code = code; grade = grade; name = option_copied name.entry } ∷ []) }
     {
-        if last.more < usize::MAX && is_same(&last.diag, &diag) {
+        if last.more < usize::MAX && is_that(&last.diag, line, code, grade, name) {
+            let Run { diag, more } = last;
             return self.push_run(Run {
                 diag,
-                more: last.more + 1,
+                more: more + 1,
             });
         }
         self.push_run(last)?;
-        self.push_run(Run { diag, more: 0 })
+        self.push_run(run_of(alloc, line, code, grade, name)?)
     }
 
     /// These are reported, too.

@@ -10,3 +10,4 @@ pub mod Reporting
 pub mod Lists
 pub mod inside
 pub mod Numbers
+pub mod Mixing

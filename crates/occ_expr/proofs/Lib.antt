@@ -1,3 +1,6 @@
 pub mod Walking
 pub mod Roots
 pub mod Decimals
+pub mod Fitting
+pub mod Alone
+pub mod Passing

@@ -2,11 +2,15 @@
 //! wanted of it, and its typed tree as far as that does not depend on its place.
 #![tactic(auto)]
 
+mod actuals;
+mod names;
 pub mod rows;
 mod sides;
 mod target;
 mod walk;
 
+pub use actuals::takes_long;
+pub use names::{name_alone, name_of};
 pub use sides::{each_one, side};
 pub use target::{root, target_of};
 pub use walk::{

@@ -1,7 +1,9 @@
 //! Whole right sides: several expressions, or one call of a function with several results.
 #![tactic(auto, using(occ_expr_operations::proofs::Views::expr_rules))]
 
-ghost use Rattle.std.specs.Prelude.{◌≡◌, ◌∷◌, ◌++◌, IfOk, OnOk};
+ghost use Rattle.std.specs.Prelude.{◌≡◌, ◌∷◌, ◌++◌, IfOk, OnOk, Some};
+ghost use Rattle.occ_scope.specs.Visible.{visible};
+ghost use Rattle.occ_scope.specs.declared.meaning.Meaning.TheVariants as m;
 ghost use Rattle.occ_expr_operations.specs.Sides.{each_one as spec_each_one, results_side as spec_results_side, side as spec_side};
 
 use super::walk::{actuals, expression, more_items};
@@ -13,7 +15,7 @@ use occ_types::{Formal, OccType};
 use std::alloc::{AllocError, Global};
 
 /// What is read of a call of a function that is a whole right side.
-#[tactic(auto, unfolding(occ_expr_operations::specs::Sides::results_side))]
+#[tactic(auto, using(crate::proofs::Passing::its_formals), unfolding(occ_expr_operations::specs::Sides::results_side))]
 fn results_side(
     alloc: Global,
     name: &Name,
@@ -23,11 +25,12 @@ fn results_side(
     scope: &Scope,
     faults: &mut Items<Fault>,
 ) -> Result<Readings, AllocError>
+    requires { visible scope.now name.now ≡ Some (m.Function formals.now results.now) }
     ensures terms { IfOk result (λ all. all.terms ≡ (spec_results_side scope.now name.now exprs.now formals.now results.now).terms) }
     ensures open_exprs { IfOk result (λ all. all.open_exprs ≡ (spec_results_side scope.now name.now exprs.now formals.now results.now).open_exprs) }
     ensures faults { OnOk result (faults.new ≡ faults.old ++ (spec_results_side scope.now name.now exprs.now formals.now results.now).faults) }
 {
-    let (is_faulty, open_exprs) = actuals(alloc, exprs, formals, scope, faults)?;
+    let (is_faulty, open_exprs) = actuals(alloc, name, exprs, formals, scope, faults)?;
     if is_faulty {
         return Readings::one(alloc, faulty_reading());
     }

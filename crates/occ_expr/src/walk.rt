@@ -1,6 +1,6 @@
 //! The one walk down a tree of an expression, an element or a written type, as one cycle of functions. Each part is read
 //! once, so the work is linear in the tokens. `docs/LANGUAGE.md, Expressions, elements and written types`.
-ghost use Rattle.std.specs.Prelude.{◌≡◌, ◌∷◌, ◌++◌, [], IfOk, MatchOption, OnOk};
+ghost use Rattle.std.specs.Prelude.{◌≡◌, ◌∷◌, ◌++◌, [], IfOk, MatchOption, OnOk, Some};
 ghost use Rattle.occ_expr_operations.specs.declared.written.Opening.TheVariants as opened;
 ghost use Rattle.occ_forms_expressions.specs.declared.tree.Bounds.TheVariants as bounds_form;
 ghost use Rattle.occ_forms_expressions.specs.declared.tree.Expr.TheVariants as form;
@@ -10,6 +10,8 @@ ghost use Rattle.occ_scope.specs.Lookup.{data_type as spec_data_type};
 ghost use Rattle.occ_scope.specs.Visible.{referent, visible};
 ghost use Rattle.occ_types.specs.Fits.{unnamed as spec_unnamed};
 ghost use Rattle.occ_types.specs.View.{fields_in};
+ghost use Rattle.occ_scope.specs.declared.meaning.Meaning.TheVariants as m;
+ghost use Rattle.occ_expr.specs.inside.Passing.{AreFormals};
 ghost use Rattle.occ_expr_operations.specs.Parts.{actuals as spec_actuals, call as spec_call, call_of_type as spec_call_of_type, table_as as spec_table_as, component as spec_component, after_a_fault as spec_after_a_fault, function_call as spec_function_call, in_scope, named_element as spec_named_element, no_call as spec_no_call, only as spec_only, own_faults, part as spec_part, segment_within as spec_segment_within, subscript as spec_subscript, subscripts as spec_subscripts, terms as spec_terms, whole_element as spec_whole_element};
 ghost use Rattle.occ_expr_operations.specs.OpenExprs.{decorated_open as spec_decorated_open, literal_open as spec_literal_open, operand_call as spec_operand_call};
 ghost use Rattle.occ_typing_tables.specs.Terms.{hidden_faults, judged_all};
@@ -20,6 +22,7 @@ ghost use Rattle.occ_expr_operations.specs.Elements.{component_at as spec_compon
 ghost use Rattle.occ_expr_operations.specs.Views.{bounds_view, components_of as spec_components_of, call_open as spec_call_open, converted_call, decorated as spec_decorated, item_opens as spec_item_opens, named_tree as spec_named_tree, operand_opens as spec_operand_opens, whole_element_open as spec_whole_element_open, builtin_view, dimension_view, dimension_views, each, element_view, expr_view, expr_views, named_operand_view, operand_view, operand_views, operands as spec_operands, type_form_view};
 ghost use Rattle.occ_expr_operations.specs.Written.{all_spanning_faults, array_after as spec_array_after, array_over as spec_array_over, array_over_more as spec_array_over_more, channel as spec_channel, data_form as spec_data_form, extents as spec_extents};
 
+use super::actuals::matched;
 use occ_base::{Fault, Items, Name, Shared, one_item};
 use occ_expr_operations::{
     BoundsReading, ElementReading, Extent, Opening, Reading, Readings, applied, array_type,
@@ -38,7 +41,7 @@ use occ_forms_expressions::{
 use occ_scope::{Meaning, Scope, carries, data_type};
 use occ_types::{Formal, KnownType, OccType, Protocol, fields_of, unnamed};
 use occ_typing_operands::{Kind, Known, field, known_as};
-use occ_typing_rules::{OpenExpr, Selector, TypedElement, TypedExpr, matched};
+use occ_typing_rules::{OpenExpr, Selector, TypedElement, TypedExpr};
 use occ_typing_tables::{BoundTerms, Term, report_hidden};
 use std::alloc::{AllocError, Global};
 
@@ -588,28 +591,31 @@ fn no_call(
     arguments(alloc, exprs, scope, faults)
 }
 
-/// The actuals of a call of a function with these formals: whether one of them is faulty, or their number, and their
-/// open expressions.
+/// The actuals of a call of the function of a name, which has these formals: whether one of them is faulty, or their
+/// number, and their open expressions.
 #[cycle(walk)]
 pub fn actuals(
     alloc: Global,
+    callee: &Name,
     exprs: &[Expr],
     formals: &[Formal],
     scope: &Scope,
     faults: &mut Items<Fault>,
 ) -> Result<(bool, Items<OpenExpr>), AllocError>
+    requires { AreFormals scope.now callee.now formals.now }
     ensures is_faulty { IfOk result (λ r. r.0 ≡ (spec_actuals formals.now (in_scope scope.now (expr_views exprs.now))).is_faulty) }
     ensures open_exprs { IfOk result (λ r. r.1 ≡ spec_item_opens scope.now (expr_views exprs.now)) }
     ensures faults { OnOk result (faults.new ≡ faults.old ++ (spec_actuals formals.now (in_scope scope.now (expr_views exprs.now))).faults) }
 {
     let mut readings = Readings::new(alloc);
     more_items(alloc, exprs, scope, &mut readings, faults)?;
-    let is_faulty = matched(alloc, formals, readings.terms.as_slice(), faults)?;
+    let terms = readings.terms.as_slice();
+    let is_faulty = matched(alloc, scope, callee, formals, exprs, terms, faults)?;
     Ok((is_faulty, readings.open_exprs))
 }
 
 /// What is read of a call of a function as an operand.
-#[tactic(auto, unfolding(occ_expr_operations::specs::Parts::function_call))]
+#[tactic(auto, using(crate::proofs::Passing::its_formals), unfolding(occ_expr_operations::specs::Parts::function_call))]
 #[cycle(walk)]
 fn function_call(
     alloc: Global,
@@ -620,11 +626,12 @@ fn function_call(
     scope: &Scope,
     faults: &mut Items<Fault>,
 ) -> Result<Reading, AllocError>
+    requires { visible scope.now name.now ≡ Some (m.Function formals.now results.now) }
     ensures term { IfOk result (λ whole. whole.term ≡ v.Single (spec_function_call formals.now results.now (in_scope scope.now (expr_views exprs.now))).kind) }
     ensures open_expr { IfOk result (λ whole. whole.open_expr ≡ spec_operand_call (spec_function_call formals.now results.now (in_scope scope.now (expr_views exprs.now))).kind (referent scope.now name.now) formals.now (spec_item_opens scope.now (expr_views exprs.now))) }
     ensures faults { OnOk result (faults.new ≡ faults.old ++ (spec_function_call formals.now results.now (in_scope scope.now (expr_views exprs.now))).faults) }
 {
-    let (is_faulty, open_exprs) = actuals(alloc, exprs, formals, scope, faults)?;
+    let (is_faulty, open_exprs) = actuals(alloc, name, exprs, formals, scope, faults)?;
     if is_faulty {
         return Ok(faulty_reading());
     }

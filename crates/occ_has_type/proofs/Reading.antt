@@ -121,17 +121,19 @@ all_fitted s [] (j ∷ js) of h = absurd h
 all_fitted s (e ∷ es) [] of h = absurd h
 all_fitted s (e ∷ es) (j ∷ js) of h = (wanted_step (Takes s e) of (j.settled of).kind (h.0.settles of), all_fitted s es js of h.1)
 
--- an item that is faulty by the type that is wanted leaves the table faulty
-own_faulty : (outside : Bool) (y : Settled) (j : Judged) → y.is_faulty ≡ true → (j.is_faulty ≡ true → j.alone.kind ≡ k.Faulty) → is_faulty (own_or_alone outside y j).kind ≡ true
-own_faulty true y j is h = ap (λ (b : Bool). is_faulty (chosen (b || j.is_untyped) (record { faults = y.faults; kind = k.Faulty }) j.alone).kind) is
-own_faulty false y j is h = by j.is_faulty refl where
-  by : (b : Bool) → j.is_faulty ≡ b → is_faulty (own_or_alone false y j).kind ≡ true
-  by true at = ap (λ (b : Bool). is_faulty (chosen (y.is_faulty && not b) (record { faults = y.faults; kind = k.Faulty }) j.alone).kind) at ∙ none_both y.is_faulty ∙ ap is_faulty (h at) where
-    none_both : (c : Bool) → is_faulty (chosen (c && not true) (record { faults = y.faults; kind = k.Faulty }) j.alone).kind ≡ is_faulty j.alone.kind
-    none_both true = refl
-    none_both false = refl
-  by false at = ap (λ (b : Bool). is_faulty (chosen (y.is_faulty && not b) (record { faults = y.faults; kind = k.Faulty }) j.alone).kind) at
-      ∙ ap (λ (c : Bool). is_faulty (chosen (c && true) (record { faults = y.faults; kind = k.Faulty }) j.alone).kind) is
+-- an item that is faulty by the type that is wanted leaves the table faulty, where it stands
+own_faulty : (outside own : Bool) (y : Settled) (j : Judged) → y.is_faulty ≡ true → (outside ≡ false → own ≡ false) → is_faulty (own_or_alone outside own y j).kind ≡ true
+own_faulty true own y j is g = ap (λ (b : Bool). is_faulty (chosen (b || j.is_untyped) (record { faults = y.faults; kind = k.Faulty }) j.alone).kind) is
+own_faulty false own y j is g =
+    ap (λ (b : Bool). is_faulty (chosen (y.is_faulty && not b) (record { faults = y.faults; kind = k.Faulty }) j.alone).kind) (g refl)
+    ∙ ap (λ (c : Bool). is_faulty (chosen (c && true) (record { faults = y.faults; kind = k.Faulty }) j.alone).kind) is
+
+-- and one that is faulty by itself does where all are judged alone
+alone_faulty : (y : Settled) (j : Judged) → j.alone.kind ≡ k.Faulty → is_faulty (own_or_alone false true y j).kind ≡ true
+alone_faulty y j h = none_both y.is_faulty ∙ ap is_faulty h where
+  none_both : (c : Bool) → is_faulty (chosen (c && not true) (record { faults = y.faults; kind = k.Faulty }) j.alone).kind ≡ is_faulty j.alone.kind
+  none_both true = refl
+  none_both false = refl
 
 or_true : (a b : Bool) → a ≡ true → (a || b) ≡ true
 or_true true b h = refl
@@ -145,17 +147,35 @@ either_true : (a b : Bool) → (a || b) ≡ true → (a ≡ true) ⊎ (b ≡ tru
 either_true true b h = inl refl
 either_true false b h = inr h
 
-any_own : (s : Scope) (es : List Expr) (js : List Judged) (outside : Bool) (of : OccType) → AllRead s es js → list_any is_faulty_settled (map (settled_under of) js) ≡ true
-    → list_any is_faulty (kinds (each_own_or_alone outside (map (settled_under of) js) js)) ≡ true
-any_own s [] [] outside of h is = is
-any_own s [] (j ∷ js) outside of h is = absurd h
-any_own s (e ∷ es) [] outside of h is = absurd h
-any_own s (e ∷ es) (j ∷ js) outside of h is =
-    let tail = list_any is_faulty (kinds (each_own_or_alone outside (map (settled_under of) js) js)) in
+any_own : (s : Scope) (es : List Expr) (js : List Judged) (outside own : Bool) (of : OccType) → AllRead s es js → (outside ≡ false → own ≡ false) → list_any is_faulty_settled (map (settled_under of) js) ≡ true
+    → list_any is_faulty (kinds (each_own_or_alone outside own (map (settled_under of) js) js)) ≡ true
+any_own s [] [] outside own of h g is = is
+any_own s [] (j ∷ js) outside own of h g is = absurd h
+any_own s (e ∷ es) [] outside own of h g is = absurd h
+any_own s (e ∷ es) (j ∷ js) outside own of h g is =
+    let tail = list_any is_faulty (kinds (each_own_or_alone outside own (map (settled_under of) js) js)) in
     elim (either_true (j.settled of).is_faulty (list_any is_faulty_settled (map (settled_under of) js)) is) [
-      | inl here ↦ or_true (is_faulty (own_or_alone outside (j.settled of) j).kind) tail (own_faulty outside (j.settled of) j here (λ at. (h.0.faulty at).0))
-      | inr there ↦ or_last (is_faulty (own_or_alone outside (j.settled of) j).kind) tail (any_own s es js outside of h.1 there)
+      | inl here ↦ or_true (is_faulty (own_or_alone outside own (j.settled of) j).kind) tail (own_faulty outside own (j.settled of) j here g)
+      | inr there ↦ or_last (is_faulty (own_or_alone outside own (j.settled of) j).kind) tail (any_own s es js outside own of h.1 g there)
     ]
+
+any_alone : (s : Scope) (es : List Expr) (js : List Judged) (of : OccType) → AllRead s es js → list_any has_fault js ≡ true
+    → list_any is_faulty (kinds (each_own_or_alone false true (map (settled_under of) js) js)) ≡ true
+any_alone s [] [] of h is = is
+any_alone s [] (j ∷ js) of h is = absurd h
+any_alone s (e ∷ es) [] of h is = absurd h
+any_alone s (e ∷ es) (j ∷ js) of h is =
+    let tail = list_any is_faulty (kinds (each_own_or_alone false true (map (settled_under of) js) js)) in
+    elim (either_true j.is_faulty (list_any has_fault js) is) [
+      | inl here ↦ or_true (is_faulty (own_or_alone false true (j.settled of) j).kind) tail (alone_faulty (j.settled of) j (h.0.faulty here).0)
+      | inr there ↦ or_last (is_faulty (own_or_alone false true (j.settled of) j).kind) tail (any_alone s es js of h.1 there)
+    ]
+
+any_told : (s : Scope) (es : List Expr) (js : List Judged) (outside own : Bool) (of : OccType) → AllRead s es js → list_any has_fault js ≡ own → list_any is_faulty_settled (map (settled_under of) js) ≡ true
+    → list_any is_faulty (kinds (each_own_or_alone outside own (map (settled_under of) js) js)) ≡ true
+any_told s es js true own of h at is = any_own s es js true own of h (λ (e : true ≡ false). absurd cc) is
+any_told s es js false false of h at is = any_own s es js false false of h (λ (e : false ≡ false). refl) is
+any_told s es js false true of h at is = any_alone s es js of h at
 
 abbrev pub findings_if : Bool → List Finding → List Finding → List Finding
 findings_if b xs ys = if b then xs else ys
@@ -168,8 +188,8 @@ know_if s to es false xs ys h g sound = g
 -- what is wanted of items of which none is faulty, they take
 each_known : (s : Scope) (es : List Expr) (js : List Judged) (outside : Bool) (of : OccType) → AllRead s es js → list_any is_faulty (kinds (each_under outside of js)) ≡ false → AllKnow s of es (kinds (each_under outside of js))
 each_known s es js outside of h sound =
-    know_if s of es (list_any is_faulty_settled (map (settled_under of) js)) (each_own_or_alone outside (map (settled_under of) js) js) (map (fitted_to of) (map (settled_under of) js))
-    (any_own s es js outside of h) (all_fitted s es js of h) sound
+    know_if s of es (list_any is_faulty_settled (map (settled_under of) js)) (each_own_or_alone outside (list_any has_fault js) (map (settled_under of) js) js) (map (fitted_to of) (map (settled_under of) js))
+    (any_told s es js outside (list_any has_fault js) of h refl) (all_fitted s es js of h) sound
 
 -- ---- the type of a table
 
@@ -320,10 +340,10 @@ any_settled s (e ∷ es) (j ∷ js) of h is = elim (either_true j.is_faulty (lis
   | inr there ↦ or_last (j.settled of).is_faulty (list_any is_faulty_settled (map (settled_under of) js)) (any_settled s es js of h.1 there)
 ]
 
-each_if : (b outside : Bool) (of : OccType) (js : List Judged) → b ≡ true → list_any is_faulty (kinds (each_own_or_alone outside (map (settled_under of) js) js)) ≡ true
-    → list_any is_faulty (kinds (findings_if b (each_own_or_alone outside (map (settled_under of) js) js) (map (fitted_to of) (map (settled_under of) js)))) ≡ true
-each_if true outside of js is h = h
-each_if false outside of js is h = absurd cc
+each_if : (b outside own : Bool) (of : OccType) (js : List Judged) → b ≡ true → list_any is_faulty (kinds (each_own_or_alone outside own (map (settled_under of) js) js)) ≡ true
+    → list_any is_faulty (kinds (findings_if b (each_own_or_alone outside own (map (settled_under of) js) js) (map (fitted_to of) (map (settled_under of) js)))) ≡ true
+each_if true outside own of js is h = h
+each_if false outside own of js is h = absurd cc
 
 unless_any : (b : Bool) (x : Finding) → b ≡ true → (chosen b silent x).kind ≡ k.Faulty
 unless_any true x is = refl
@@ -335,7 +355,7 @@ after_faulty s es js (k.Untyped f) h is = refl
 after_faulty s es js (k.Known x) h is =
     let any = any_settled s es js x.of h is in
     let ks = kinds (each_under false x.of js) in
-    unless_any (list_any is_faulty ks) (items_type x.of ks) (each_if (list_any is_faulty_settled (map (settled_under x.of) js)) false x.of js any (any_own s es js false x.of h any))
+    unless_any (list_any is_faulty ks) (items_type x.of ks) (each_if (list_any is_faulty_settled (map (settled_under x.of) js)) false (list_any has_fault js) x.of js any (any_told s es js false (list_any has_fault js) x.of h refl any))
 
 table_faulty : (s : Scope) (es : List Expr) (js : List Judged) (parts : Option (Option ℕ × OccType)) → AllRead s es js → list_any has_fault js ≡ true → (table_of js parts).is_faulty ≡ true
 table_faulty s es js None h is = ap is_faulty (after_faulty s es js (first_settled js).kind h is)

@@ -11,7 +11,7 @@ use Rattle.occ_typing_operands.specs.Wanting.{cast, conversion, converted_from, 
 use Rattle.occ_typing_operands.specs.declared.kind.Kind.{Kind}
 use Rattle.occ_typing_operands.specs.declared.kind.Kind.TheVariants as k
 use Rattle.occ_typing_tables.specs.Extents.{arrayed, is_too_large}
-use Rattle.occ_typing_tables.specs.Terms.{Judged, after_first, all_under, each_own_or_alone, each_under, first_settled, first_type, fitted_to, is_faulty_settled, is_untyped_kind, items_type, joined, judged, judged_all, merged_all, reported_of, settled_under, so_many, table_alone, table_of, table_settled, table_type, unless_faulty, with_items}
+use Rattle.occ_typing_tables.specs.Terms.{Judged, after_first, all_under, each_own_or_alone, each_under, first_settled, first_type, fitted_to, has_fault, is_faulty_settled, is_untyped_kind, items_type, joined, judged, judged_all, merged_all, reported_of, settled_under, so_many, table_alone, table_of, table_settled, table_type, unless_faulty, with_items}
 use Rattle.occ_typing_tables.specs.declared.table.Settled.{Settled}
 use Rattle.occ_typing_tables.specs.declared.term.Term.{Term}
 use Rattle.occ_typing_tables.specs.declared.term.Term.TheVariants as v
@@ -109,7 +109,7 @@ fitted_if es types false xs ys is h = h
 
 pub each_fitted : (outside : Bool) (to : OccType) (es : List Expr) (types : List OccType) (js : List Judged) → AllDone to es types js → Fitted es types (each_under outside to js)
 each_fitted outside to es types js h =
-    fitted_if es types (list_any is_faulty_settled (map (settled_under to) js)) (each_own_or_alone outside (map (settled_under to) js) js) (map (fitted_to to) (map (settled_under to) js)) (all_sound to es types js h) (all_fitted to es types js h)
+    fitted_if es types (list_any is_faulty_settled (map (settled_under to) js)) (each_own_or_alone outside (list_any has_fault js) (map (settled_under to) js) js) (map (fitted_to to) (map (settled_under to) js)) (all_sound to es types js h) (all_fitted to es types js h)
 
 pub items_finds : (xs : List Finding) (whole : Finding) (of : OccType) (value : Option Value) → all_faults xs ≡ [] → list_any is_faulty (kinds xs) ≡ false → Finds of value whole → Finds of value (with_items xs whole)
 items_finds xs whole of value clean sound h =

@@ -1,5 +1,6 @@
 -- A file that is new to a project, and what is known then.
 use Rattle.std.proofs.Common.{◌≡◌, ◌∙◌, ◌+◌, ◌<◌, ◌≤◌, ◌++◌, ◌||◌, ◌⊎◌, ℕ, zero, suc, Bool, true, false, cond, List, [], ◌∷◌, length, map, take, drop, get_or, Option, Some, None, refl, sym, ap, subst, inl, inr, arith}
+use Rattle.std.specs.Prelude.{IfSome}
 use Rattle.std.specs.List.{cons_option, insert, remove, slice_get}
 use Rattle.std.specs.Option.{option_map, unwrap_or}
 use Rattle.std.specs.Ordering.{match_ordering}
@@ -33,7 +34,8 @@ use Rattle.occ_project_units.specs.Indices.{graph_of, indices_of}
 use Rattle.occ_project_units.specs.Project.{IsProject, put}
 use Rattle.occ_project_units.specs.Units.{read_names, used_units}
 use Rattle.occ_project_units.specs.declared.facts.Facts.{Facts}
-use Rattle.occ_project_units.specs.inside.Keeping.{AreLacking, AreLackingWith, IsLookingForNone, all_facts, facts_of}
+use Rattle.occ_project_units.specs.declared.lookers.Lookers.{Lookers}
+use Rattle.occ_project_units.specs.inside.Keeping.{AreLookers, AreLookersIf, AreNotedWith, IsMore, IsNoted, all_facts, facts_of}
 
 none_by : (b : Bool) → (b ≡ true → ⊥) → b ≡ false
 none_by true f = absurd (f refl)
@@ -218,7 +220,7 @@ one_only (n ∷ []) unit name le h other = by (bytes_eq n unit) refl h where
   by false e k = absurd cc
 one_only (n ∷ m ∷ names) unit name le h other = absurd (omega (arith, le))
 
-one_read : (files : List Read) (unit name : List ℕ) → length (read_names files unit) ≤ 1 → bytes_eq unit name ≡ false → is_among (read_names files unit) name ≡ false
+pub one_read : (files : List Read) (unit name : List ℕ) → length (read_names files unit) ≤ 1 → bytes_eq unit name ≡ false → is_among (read_names files unit) name ≡ false
 one_read files unit name le other = by (is_unit unit) le where
   by : (b : Bool) → length (cond b (expansion files unit).reads []) ≤ 1 → is_among (cond b (expansion files unit).reads []) name ≡ false
   by true k = one_only (expansion files unit).reads unit name k (reads_itself files unit) other
@@ -258,7 +260,7 @@ mapped_none : (f : ℕ → ℕ) (o : Option ℕ) → option_map f o ≡ None →
 mapped_none f None h = refl
 mapped_none f (Some x) h = absurd cc
 
--- those look for one that is not there, once a file is that none reads, that did before, and perhaps the new one
+-- who looks for what, once a file is that none reads
 module _ (files : List Read) (file : Read) (at : ℕ) (gap : IsGap file.name files at) (unread : (p : ℕ) → p < length files → is_among (read_names files (name_at files p)) file.name ≡ false) (project : IsProject files) where
   facts_same : (p : ℕ) → p < length files → facts_of (put files file) (name_at files p) ≡ facts_of files (name_at files p)
   facts_same p lt = sym (facts_stay files (put files file) (name_at files p) file.name (put_others files file) (unread p lt))
@@ -279,13 +281,6 @@ module _ (files : List Read) (file : Read) (at : ℕ) (gap : IsGap file.name fil
       cc (here, none)) in
       mapped_none (raised at) (index name files) (sym (gap_then files file at gap name other) ∙ none)
 
-  still_none : (p : ℕ) → p < length files → IsLookingForNone files (name_at files p) → IsLookingForNone (put files file) (name_at (put files file) (raised at p))
-  still_none p lt before = subst (IsLookingForNone (put files file)) (sym (name_then p lt)) (λ name none.
-      let was = before name (absent_before name none) in (
-        ap (λ (names : List (List ℕ)). is_among names name) (reads_same p lt) ∙ was.0,
-        ap (λ (f : Facts). is_among f.uses name) (facts_same p lt) ∙ was.1,
-      ))
-
   index_before : (p : ℕ) → raised at p < length (put files file) → p < length files
   index_before p lt =
       let long = gap_long files file at gap in
@@ -295,18 +290,33 @@ module _ (files : List Read) (file : Read) (at : ℕ) (gap : IsGap file.name fil
         | inr above ↦ let e = raised_above at p above in omega (arith, lt, e, long)
       ]
 
-  pub lacking_then : (lacking : Option (List ℕ)) → AreLackingWith files at lacking → AreLacking (put files file) lacking
-  lacking_then None h = tt
-  lacking_then (Some lacking) h = λ p lt. elim (here_or at p) [
-    | inl e ↦ inl (subst (λ (q : ℕ). graph.is_among lacking q ≡ true) (sym e) h.new)
-    | inr there ↦
-        let same = there.1 in
-        let within : there.0 < length files = index_before there.0 (omega (arith, lt, same)) in
-        elim (h.others there.0 within) [
-          | inl k ↦ inl (subst (λ (q : ℕ). graph.is_among lacking q ≡ true) there.1 k)
-          | inr none ↦ inr (subst (λ (q : ℕ). IsLookingForNone (put files file) (name_at (put files file) q)) there.1 (still_none there.0 within none))
-        ]
+  module _ (lookers more : Lookers) (are : AreLookers files lookers) (m : IsMore lookers more) (new : IsNoted (put files file) file.name more) where
+    still_noted : (p : ℕ) → p < length files → IsNoted (put files file) (name_at (put files file) (raised at p)) more
+    still_noted p lt = subst (λ (n : List ℕ). IsNoted (put files file) n more) (sym (name_then p lt)) (λ name other.
+        let was = are p lt name other in (
+          λ k. m name (name_at files p) (was.0 (ap (λ (names : List (List ℕ)). is_among names name) (sym (reads_same p lt)) ∙ k)),
+          λ none k. m name (name_at files p) (was.1 (absent_before name none) (ap (λ (f : Facts). is_among f.uses name) (sym (facts_same p lt)) ∙ k)),
+        ))
+
+    lookers_then : AreLookers (put files file) more
+    lookers_then = λ p lt. elim (here_or at p) [
+      | inl e ↦ subst (λ (n : List ℕ). IsNoted (put files file) n more) (sym (ap (name_at (put files file)) e ∙ gap_name files file at gap)) new
+      | inr there ↦
+          let same = there.1 in
+          subst (λ (q : ℕ). IsNoted (put files file) (name_at (put files file) q) more) there.1 (still_noted there.0 (index_before there.0 (omega (arith, lt, same))))
+    ]
+
+  -- so it is where it was known before
+  then_by : (lookers : Option Lookers) (next : Lookers) → AreLookersIf files lookers → AreNotedWith (put files file) at lookers next → AreLookers (put files file) next
+  then_by None next are all = all
+  then_by (Some lookers) next are noted = elim noted [
+    | inl both ↦ lookers_then lookers next are both.0 (subst (λ (n : List ℕ). IsNoted (put files file) n next) (gap_name files file at gap) both.1)
+    | inr all ↦ all
   ]
+
+  pub lookers_then_if : (lookers found : Option Lookers) → AreLookersIf files lookers → IfSome found (λ next. AreNotedWith (put files file) at lookers next) → AreLookersIf (put files file) found
+  lookers_then_if lookers None are h = tt
+  lookers_then_if lookers (Some next) are h = then_by lookers next are h
 
 -- a file that has no index comes to those that are there
 pub put_longer : (files : List Read) (file : Read) → index file.name files ≡ None → length (put files file) ≡ length files + 1

@@ -1,16 +1,9 @@
--- What is looked for at some indices alone.
-use Rattle.std.proofs.Common.{◌≡◌, ◌∙◌, ◌+◌, ◌<◌, ◌≤◌, ◌&&◌, ◌||◌, ◌++◌, ℕ, zero, suc, Bool, true, false, cond, List, [], ◌∷◌, length, map, take, get_or, replicate, slice_get, Some, refl, sym, ap, subst, inl, inr, arith}
+-- What files at some indices alone have.
+use Rattle.std.proofs.Common.{◌≡◌, ◌∙◌, ◌+◌, ◌<◌, ◌≤◌, ◌&&◌, ◌||◌, ◌++◌, ℕ, zero, suc, Bool, true, false, cond, List, [], ◌∷◌, length, take, get_or, replicate, refl, sym, ap, subst, arith}
 use Rattle.std.specs.Prelude.{◌==◌, slice_set}
-use Rattle.std.proofs.lemmas.Bool.{cases_lt, eq-eqb, eqb-false, eqb-true}
-use Rattle.std.proofs.lemmas.List.{get_or-map, get_or_past, length-map, take_more}
+use Rattle.std.proofs.lemmas.Bool.{eqb-false, eqb-true}
+use Rattle.std.proofs.lemmas.List.{take_more}
 use Rattle.occ_project_graph.specs.Graph.{is_among as is_index}
-use Rattle.occ_project.specs.Entries.{is_among}
-use Rattle.occ_project.specs.declared.reads.Read.{Read}
-use Rattle.occ_project_units.proofs.Renewed.{facts_at}
-use Rattle.occ_project_units.specs.Along.{name_at}
-use Rattle.occ_project_units.specs.Units.{read_names, used_units}
-use Rattle.occ_project_units.specs.declared.facts.Facts.{Facts}
-use Rattle.occ_project_units.specs.inside.Keeping.{AreLacking, IsLookingForNone, all_facts, facts_of}
 
 among_append : (ws : List ℕ) (w p : ℕ) → is_index (ws ++ w ∷ []) p ≡ (is_index ws p || (w == p))
 among_append [] w p = or_false (w == p) where
@@ -22,13 +15,6 @@ among_append (x ∷ ws) w p = ap (λ (b : Bool). (x == p) || b) (among_append ws
   either true b c = refl
   either false b c = refl
 
--- what is added behind others is one of them
-pub pushed_among : (ws next : List ℕ) (w p : ℕ) → next ≡ ws ++ w ∷ [] → w ≡ p → is_index next p ≡ true
-pushed_among ws next w p n e = ap (λ (xs : List ℕ). is_index xs p) n ∙ among_append ws w p ∙ by (is_index ws p) (w == p) (eq-eqb w p e) where
-  by : (a b : Bool) → b ≡ true → (a || b) ≡ true
-  by true b h = refl
-  by false b h = h
-
 among_take : (ws : List ℕ) (i p : ℕ) → i < length ws → is_index (take (i + 1) ws) p ≡ (is_index (take i ws) p || (get_or ws i 0 == p))
 among_take ws i p lt = ap (λ (xs : List ℕ). is_index xs p) (take_more ws i 0 lt) ∙ among_append (take i ws) (get_or ws i 0) p
 
@@ -37,56 +23,6 @@ take_whole [] zero le = refl
 take_whole [] (suc i) le = refl
 take_whole (w ∷ ws) zero le = absurd (omega (arith, le))
 take_whole (w ∷ ws) (suc i) le = ap (λ (xs : List ℕ). w ∷ xs) (take_whole ws i (omega (arith, le)))
-
--- what holds of the first of these, and of the next
-pub more_hold : (P : ℕ → Type 0) (ws : List ℕ) (i : ℕ) → i < length ws → ((p : ℕ) → is_index (take i ws) p ≡ true → P p) → P (get_or ws i 0) → (p : ℕ) → is_index (take (i + 1) ws) p ≡ true → P p
-more_hold P ws i lt before here p k = by (get_or ws i 0 == p) refl (is_index (take i ws) p) refl (sym (among_take ws i p lt) ∙ k) where
-  by : (b : Bool) → (get_or ws i 0 == p) ≡ b → (c : Bool) → is_index (take i ws) p ≡ c → (c || b) ≡ true → P p
-  by true e c f h = subst P (eqb-true (get_or ws i 0) p e) here
-  by false e true f h = before p f
-  by false e false f h = absurd cc
-
-pub all_hold : (P : ℕ → Type 0) (ws : List ℕ) (i : ℕ) → length ws ≤ i → ((p : ℕ) → is_index (take i ws) p ≡ true → P p) → (p : ℕ) → is_index ws p ≡ true → P p
-all_hold P ws i le each p k = each p (ap (λ (xs : List ℕ). is_index xs p) (take_whole ws i le) ∙ k)
-
--- what is so of those, and of all that look for none, is so of all
-pub none_reads : (files : List Read) (lacking : List ℕ) (name : List ℕ) → AreLacking files (Some lacking) → ((p : ℕ) → is_index lacking p ≡ true → p < length files → is_among (read_names files (name_at files p)) name ≡ false)
-    → ((p : ℕ) → p < length files → IsLookingForNone files (name_at files p) → is_among (read_names files (name_at files p)) name ≡ false) → (p : ℕ) → p < length files → is_among (read_names files (name_at files p)) name ≡ false
-none_reads files lacking name are those others p lt = elim (are p lt) [
-  | inl k ↦ those p k lt
-  | inr none ↦ others p lt none
-]
-
-pub none_uses : (files : List Read) (lacking : List ℕ) (name : List ℕ) → AreLacking files (Some lacking) → ((p : ℕ) → is_index lacking p ≡ true → p < length files → is_among (used_units files (name_at files p)) name ≡ false)
-    → ((p : ℕ) → p < length files → IsLookingForNone files (name_at files p) → is_among (used_units files (name_at files p)) name ≡ false) → (p : ℕ) → p < length files → is_among (used_units files (name_at files p)) name ≡ false
-none_uses files lacking name are those others p lt = elim (are p lt) [
-  | inl k ↦ those p k lt
-  | inr none ↦ others p lt none
-]
-
--- so all that use a file that is not there are among them
-pub uses_lack : (files : List Read) (facts : List Facts) (lacking : List ℕ) (name : List ℕ) → facts ≡ all_facts files → AreLacking files (Some lacking) → ((p : ℕ) → IsLookingForNone files (name_at files p) → is_among (used_units files (name_at files p)) name ≡ false)
-    → (p : ℕ) → is_index lacking p ≡ false → get_or (map (λ (f : Facts). is_among f.uses name) facts) p false ≡ false
-uses_lack files facts lacking name f are others p none = elim (cases_lt p (length files)) [
-  | inl below ↦ elim (are p below) [
-    | inl k ↦ absurd cc
-    | inr looks ↦ ap (λ (fs : List Facts). get_or (map (λ (g : Facts). is_among g.uses name) fs) p false) f ∙ ap (λ (b : Bool). b) (uses_there p below) ∙ others p looks
-  ]
-  | inr above ↦
-      let long = length-map files (λ (x : Read). facts_of files x.name) in
-      let wide = length-map (all_facts files) (λ (g : Facts). is_among g.uses name) in
-      ap (λ (fs : List Facts). get_or (map (λ (g : Facts). is_among g.uses name) fs) p false) f ∙ get_or_past (map (λ (g : Facts). is_among g.uses name) (all_facts files)) p false (omega (arith, above, long, wide))
-] where
-  uses_there : (q : ℕ) → q < length files → get_or (map (λ (g : Facts). is_among g.uses name) (all_facts files)) q false ≡ is_among (used_units files (name_at files q)) name
-  uses_there q lt =
-      let long = length-map files (λ (x : Read). facts_of files x.name) in
-      get_or-map (λ (g : Facts). is_among g.uses name) (all_facts files) q (facts_of files (name_at files q)) false (omega (arith, lt, long))
-      ∙ ap (λ (g : Facts). is_among g.uses name) (get_there (all_facts files) q (facts_of files (name_at files q)) (facts_of files (name_at files q)) (facts_at files q lt))
-    where
-      get_there : (fs : List Facts) (k : ℕ) (d g : Facts) → slice_get fs k ≡ Some g → get_or fs k d ≡ g
-      get_there [] k d g e = cc
-      get_there (x ∷ fs) zero d g e = cc
-      get_there (x ∷ fs) (suc k) d g e = get_there fs k d g e
 
 -- marks of the first of these
 pub record IsMarking (uses : List Bool) (ws : List ℕ) (marks : List Bool) (i : ℕ) : Type 0 where

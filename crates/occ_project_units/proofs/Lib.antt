@@ -16,5 +16,6 @@ pub mod Renewed
 pub mod Added
 pub mod Joins
 pub mod Lacking
+pub mod Looking
 pub mod Noting
 pub mod OtherReaders

@@ -3,6 +3,7 @@ use Rattle.std.proofs.Common.{◌≡◌, ◌∙◌, ◌+◌, ◌<◌, ◌≤◌,
 use Rattle.std.proofs.lemmas.Bool.{eq-eqb, eqb-true, lt-ltb, ltb-false, ltb-true}
 use Rattle.std.proofs.lemmas.List.{drop_more, drop_all}
 use Rattle.std.proofs.lemmas.List.Elements.{filter-append}
+use Rattle.std.proofs.lemmas.Slice.Eq.{bytes_eq-Decides}
 use Rattle.std.specs.List.{AllByRecursion, cons_option, filter, flat_map, slice_get}
 use Rattle.std.specs.List.Sorted.{IsPartitionPoint, IsPartitionedBy}
 use Rattle.std.specs.Option.{option_map, unwrap_or}
@@ -241,6 +242,44 @@ module _ (files : List Read) (project : IsProject files) (p : ℕ) (lt : p < len
 
   pub without_own : (rest : List ℕ) → is_unit name ≡ false → rest ≡ others p (readers_at files p) → rest ≡ readers_at files p
   without_own rest e r = r ∙ others_parts ∙ sym (readers_parts ∙ ap (λ (b : Bool). before ++ (cond b (p ∷ []) [] ++ behind)) e)
+
+-- none but itself reads a file that no file of another name reads
+others_same : (u p : ℕ) → (u == p) ≡ true → (xs : List ℕ) → others p (map (λ (x : ℕ). u) xs) ≡ []
+others_same u p e [] = refl
+others_same u p e (x ∷ xs) = ap (λ (b : Bool). cond (not b) (u ∷ others p (map (λ (y : ℕ). u) xs)) (others p (map (λ (y : ℕ). u) xs))) e ∙ others_same u p e xs
+
+others_from : (p : ℕ) (g : Graph) (u : ℕ) → ((i : ℕ) → i < length g → (u + i == p) ≡ false → is_index (get_or g i []) p ≡ false) → others p (sources_from u g p) ≡ []
+others_from p [] u h = refl
+others_from p (ws ∷ g) u h =
+    filter-append (λ w. not (w == p)) (once_each u ws p) (sources_from (u + 1) g p)
+    ∙ ap (λ (xs : List ℕ). xs ++ others p (sources_from (u + 1) g p)) (first (u == p) refl)
+    ∙ others_from p g (u + 1) (λ i lt other. let same : u + 1 + i ≡ u + suc i = omega arith in h (suc i) (omega (arith, lt)) (subst (λ (n : ℕ). (n == p) ≡ false) same other)) where
+      first : (b : Bool) → (u == p) ≡ b → others p (once_each u ws p) ≡ []
+      first true e = others_same u p e (filter (λ w. w == p) ws)
+      first false e = let same : u ≡ u + 0 = omega arith in ap (others p) (once_none u p ws (h 0 (omega arith) (subst (λ (n : ℕ). (n == p) ≡ false) same e)))
+
+module _ (files : List Read) (project : IsProject files) (p : ℕ) (lt : p < length files)
+    (alone : (q : ℕ) → q < length files → bytes_eq (name_at files q) (name_at files p) ≡ false → is_among (read_names files (name_at files q)) (name_at files p) ≡ false) where
+  names_differ : (q : ℕ) → q < length files → (q == p) ≡ false → bytes_eq (name_at files q) (name_at files p) ≡ false
+  names_differ q below other = by (bytes_eq (name_at files q) (name_at files p)) refl where
+    by : (b : Bool) → bytes_eq (name_at files q) (name_at files p) ≡ b → b ≡ false
+    by true e =
+        let one : Some q ≡ Some p = sym (placed_name files q project below) ∙ ap (λ (n : List ℕ). index n files) ((bytes_eq-Decides (name_at files q) (name_at files p)).0 e) ∙ placed_name files p project lt in
+        let same : q ≡ p = cc in
+        let not = eq-eqb q p same in
+        absurd (cc (not, other))
+    by false e = refl
+
+  row_apart : (q : ℕ) → q < length (read_graph files) → (0 + q == p) ≡ false → is_index (get_or (read_graph files) q []) p ≡ false
+  row_apart q below other =
+      let long = read_graph_long files in
+      let there : q < length files = omega (arith, below, long) in
+      let same : 0 + q ≡ q = omega arith in
+      ap (λ (ws : List ℕ). is_index ws p) (row_there files project q there)
+      ∙ no_index files (read_names files (name_at files q)) (name_at files p) p (placed_name files p project lt) (alone q there (names_differ q there (subst (λ (n : ℕ). (n == p) ≡ false) same other)))
+
+  pub alone_readers : others p (readers_at files p) ≡ []
+  alone_readers = others_from p (read_graph files) 0 row_apart
 
 -- an index comes between those before it and those behind it
 record AreAround (at : ℕ) (front : ℕ) (xs : List ℕ) : Type 0 where

@@ -29,7 +29,8 @@ use Rattle.occ_project_units.specs.Indices.{graph_of, indices_of, read_graph, re
 use Rattle.occ_project_units.specs.Project.{IsProject, file_of, put}
 use Rattle.occ_project_units.specs.Units.{read_names, used_units}
 use Rattle.occ_project_units.specs.declared.facts.Facts.{Facts}
-use Rattle.occ_project_units.specs.inside.Keeping.{AreAsBefore, AreOthers, AreReaders, IsAsBefore, IsGraph, IsRenewed, all_facts, facts_of, others as but}
+use Rattle.occ_project_units.specs.declared.lookers.Lookers.{Lookers}
+use Rattle.occ_project_units.specs.inside.Keeping.{AreAsBefore, AreLookers, AreLookersIf, AreOthers, AreReaders, IsNoted, IsAsBefore, IsGraph, IsRenewed, all_facts, facts_of, others as but}
 
 -- what was at an index comes back to it
 set_back : {X : Type 0} (xs : List X) (p : ℕ) (x y : X) → slice_get xs p ≡ Some x → set (set xs p y) p x ≡ xs
@@ -370,7 +371,7 @@ module _ (files later : List Read) (file : Read) (at : ℕ) (project : IsProject
           ∙ sym (read_targets law later p over))
 
       pub renewed : IsRenewed files later
-      renewed = record { len = still_long; graph = sym same_graph; reads = sym same_reads }
+      renewed = record { len = still_long; graph = sym same_graph; reads = sym same_reads; placed = still_placed; named = still_named; known = stays }
 
 -- an edit of a file that the units at these indices read
 module _ (law : (g : Graph) (u v : ℕ) → (is_index (sources g v) u ≡ true) ↔ (has_edge g u v ≡ true)) (files later : List Read) (file : Read) (at : ℕ) (project : IsProject files) (put_is : later ≡ put files file) (e : index file.name files ≡ Some at)
@@ -461,8 +462,22 @@ module _ (files later : List Read) (same : IsRenewed files later) where
   readers_still None h = tt
   readers_still (Some rows) h = λ p lt. let len = same.len in h p (omega (arith, len, lt)) ∙ ap (λ (g : Graph). but p (sources g p)) (sym same.reads)
 
-  pub graph_still : (next : List Facts) (links : Graph) (readers : Option Graph) → links ≡ graph_of files → AreReaders files readers → next ≡ all_facts later → IsGraph later next links readers None
-  graph_still next links readers h r n = record { facts_are = n; links_are = h ∙ sym same.graph; readers_are = readers_still readers r; lacking_are = tt }
+  lookers_still : (lookers : Lookers) → AreLookers files lookers → AreLookers later lookers
+  lookers_still lookers are = λ p lt.
+      let len = same.len in
+      let within : p < length files = omega (arith, len, lt) in
+      subst (λ (n : List ℕ). IsNoted later n lookers) (sym (same.named p within)) (λ name other.
+      let was = are p within name other in (
+        λ k. was.0 (ap (λ (names : List (List ℕ)). is_among names name) ((same.known p within).0) ∙ k),
+        λ none k. was.1 (sym (same.placed name) ∙ none) (ap (λ (names : List (List ℕ)). is_among names name) ((same.known p within).1) ∙ k),
+      ))
+
+  lookers_still_if : (lookers : Option Lookers) → AreLookersIf files lookers → AreLookersIf later lookers
+  lookers_still_if None are = tt
+  lookers_still_if (Some lookers) are = lookers_still lookers are
+
+  pub graph_still : (next : List Facts) (links : Graph) (readers : Option Graph) (lookers : Option Lookers) → links ≡ graph_of files → AreReaders files readers → AreLookersIf files lookers → next ≡ all_facts later → IsGraph later next links readers lookers
+  graph_still next links readers lookers h r l n = record { facts_are = n; links_are = h ∙ sym same.graph; readers_are = readers_still readers r; lookers_are = lookers_still_if lookers l }
 
 -- where the file was open and is so, the same files are
 pub alike_after : (files later : List Read) (file : Read) → later ≡ put files file → graph_of later ≡ graph_of files → is_some (file_of files file.name).source ≡ true → is_some file.source ≡ true → AreAlike files later

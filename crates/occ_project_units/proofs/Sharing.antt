@@ -21,6 +21,7 @@ use Rattle.occ_project_units.proofs.Narrowed.{file_source}
 use Rattle.occ_project_units.proofs.Putting.{below_found, file_put}
 use Rattle.occ_project_units.proofs.Rising.{equal_names, turned}
 use Rattle.occ_project_units.specs.declared.facts.Facts.{Facts}
+use Rattle.occ_project_units.specs.declared.lookers.Lookers.{Lookers}
 use Rattle.occ_project_units.specs.Indices.{graph_of, indices_of}
 use Rattle.occ_project_units.specs.Project.{IsProject, file_of, put}
 use Rattle.occ_project_units.specs.inside.Keeping.{AreOthers, IsGraph, all_facts, facts_of}
@@ -135,9 +136,9 @@ if_ok (Ok z) x y h e = h ∙ e
 if_ok (Err f) x y h e = h
 
 -- what rests on what stays where each file uses the same
-pub links_stay : (now files later : List Read) (facts lent found : List Facts) (kept : Graph) (readers : Option Graph) (lacking : Option (List ℕ)) (edited : List ℕ) → files ≡ now → IsGraph files facts kept readers lacking → lent ≡ facts → found ≡ all_facts later
+pub links_stay : (now files later : List Read) (facts lent found : List Facts) (kept : Graph) (readers : Option Graph) (lookers : Option Lookers) (edited : List ℕ) → files ≡ now → IsGraph files facts kept readers lookers → lent ≡ facts → found ≡ all_facts later
     → map (λ (f : Facts). f.uses) lent ≡ map (λ (f : Facts). f.uses) found → is_some (index edited files) ≡ true → (is_some (index edited now) ≡ true → (name : List ℕ) → index name later ≡ index name now) → graph_of now ≡ graph_of later
-links_stay now files later facts lent found kept readers lacking edited view graph l f uses here same =
+links_stay now files later facts lent found kept readers lookers edited view graph l f uses here same =
     ap graph_of (sym view)
     ∙ graph_stays files later lent found (l ∙ graph.facts_are) f uses (λ name. same (ap (λ (fs : List Read). is_some (index edited fs)) (sym view) ∙ here) name ∙ ap (index name) (sym view))
 

@@ -30,7 +30,7 @@ pub fn may_read(facts: &Facts, name: FileName) -> bool
 pub fn may_use(facts: &Facts, edges: usize, name: FileName) -> bool
     ensures { IsFalse result → edges ≡ length facts.now.uses ⊎ is_among facts.now.uses name ≡ false }
 {
-    edges != facts.uses.len() && is_name_among(facts.uses.as_slice(), name)
+    edges != facts.uses.get().len() && is_name_among(facts.uses.get().as_slice(), name)
 }
 
 /// Whether a file from which so many edges lead looks for none that is not there: it reads itself alone, and all that it uses are
@@ -38,7 +38,7 @@ pub fn may_use(facts: &Facts, edges: usize, name: FileName) -> bool
 pub fn is_whole(facts: &Facts, edges: usize) -> bool
     ensures { IsTrue result → (length facts.now.reads ≤ 1) × (edges ≡ length facts.now.uses) }
 {
-    facts.reads.len() <= 1 && edges == facts.uses.len()
+    facts.reads.len() <= 1 && edges == facts.uses.get().len()
 }
 
 /// Adds what is known of the file at an index, which is new. What it uses is looked for first near what the file before it uses.
@@ -58,7 +58,7 @@ fn add_known(
 {
     let known = facts_of(alloc, project, at, project.name_at(at), &mut None)?;
     let hints = links.targets(at.saturating_sub(1));
-    let targets = indices_of(alloc, project, 0, Some(&hints), known.uses.as_slice())?;
+    let targets = indices_of(alloc, project, 0, Some(&hints), known.uses.get().as_slice())?;
     let shared = Shared::new(alloc, known)?;
     insert_at(facts, at, shared)?;
     match links.add(alloc, at, targets) {

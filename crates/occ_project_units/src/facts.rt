@@ -24,8 +24,8 @@ pub fn is_name_among(names: &[FileName], name: FileName) -> bool
 pub struct Facts {
     /// The names that its expansion looks up.
     pub reads: Items<FileName>,
-    /// The units that it uses, in order of name.
-    pub uses: Items<FileName>,
+    /// The units that it uses, in order of name. Units that use the same share them.
+    pub uses: Shared<Items<FileName>>,
 }
 
 /// Written out: crates above call it, where each would prove a derived one anew.
@@ -55,7 +55,7 @@ pub fn facts_of(
     if !name.is_unit() {
         return Ok(Facts {
             reads: Items::new(alloc),
-            uses: Items::new(alloc),
+            uses: Shared::new(alloc, Items::new(alloc))?,
         });
     }
     skim(alloc, project, hint, name, last)
@@ -179,7 +179,7 @@ pub fn edges(
     let mut edges = Vec::new(alloc);
     for (index, facts) in all.iter().enumerate() {
         let hints = hints_at(before, new, index);
-        let uses = facts.get().uses.as_slice();
+        let uses = facts.get().uses.get().as_slice();
         edges.push(indices_of(alloc, project, 0, hints.as_ref(), uses)?)?;
     }
     Ok(edges)

@@ -133,7 +133,10 @@ pub fn use_same(a: &[Shared<Facts>], b: &[Shared<Facts>]) -> bool
         return false;
     }
     for i in 0..a.len() {
-        if !are_same_names(a[i].get().uses.as_slice(), b[i].get().uses.as_slice()) {
+        if !are_same_names(
+            a[i].get().uses.get().as_slice(),
+            b[i].get().uses.get().as_slice(),
+        ) {
             return false;
         }
     }

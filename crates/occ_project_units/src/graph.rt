@@ -1,7 +1,6 @@
 //! The graph of a project: what units read and use, circles, and how a used unit is found. Edits change it in place where
 //! they can.
 ghost use Rattle.occ_base.specs.FileName.{is_unit};
-ghost use Rattle.occ_project_graph.specs.Adding.{raised};
 ghost use Rattle.occ_project_graph.specs.Graph.{is_among as spec_is_among, rests as spec_rests, targets};
 ghost use Rattle.occ_project.specs.Entries.{is_among};
 ghost use Rattle.occ_project.specs.Reads.{index, index as spec_index};
@@ -11,18 +10,21 @@ ghost use Rattle.occ_project_units.specs.New.{IsNew};
 ghost use Rattle.occ_project_units.specs.Indices.{graph_of, is_circular as spec_is_circular, readers_at, standing_of, users_at};
 ghost use Rattle.occ_project_units.specs.Project.{file_of, put};
 ghost use Rattle.occ_project_units.specs.Units.{read_names, used_units};
-ghost use Rattle.occ_project_units.specs.inside.Keeping.{AreLacking, AreLackingThen, AreLackingWith, IsLookingForNone, IsUnread, all_facts as spec_all_facts, facts_of as spec_facts_of};
+ghost use Rattle.occ_project_units.specs.inside.Keeping.{AreLookers, IsUnread, all_facts as spec_all_facts, facts_of as spec_facts_of, others as spec_others};
+ghost use Rattle.std.specs.Str.{bytes_eq};
 ghost use Rattle.std.specs.Option.{is_some, option_and_then, option_copied, option_map};
-ghost use Rattle.std.specs.Prelude.{[], ◌∷◌, cond, false, get_or, IfOk, IfSome, IsFalse, IsTrue, MatchOption, None, OnErr, OnOk, Some, length, List, map, not, slice_get, true, ℕ, ◌&&◌, ◌⊎◌, ◌≡◌, ◌<◌};
+ghost use Rattle.std.specs.Prelude.{[], ◌∷◌, cond, false, get_or, IfOk, IfSome, IsFalse, IsTrue, MatchOption, None, OnErr, OnOk, Some, length, List, map, not, slice_get, true, ℕ, ◌&&◌, ◌≡◌, ◌<◌};
 
-use super::adding::{add_file, is_whole, may_read, may_use};
-use super::facts::{Facts, all_facts, does_read, place_or};
+use super::adding::{add_file, may_read, may_use};
+use super::facts::{Facts, all_facts, does_read, indices_of, place_or};
 use super::following::{all_facts_after, use_same};
 use super::joining::{add_used_file, users_among, users_of};
 use super::links::links_of;
+use super::lookers::{Lookers, names_of};
 use super::project::{Project, share};
 use super::readers::{find_readers, with_itself};
 use super::renewing::renew;
+use super::seeking::{lookers_after, lookers_with};
 use super::standing::Standing;
 use occ_base::{FileName, Items, Shared};
 use occ_forms::Source;
@@ -40,16 +42,6 @@ fn row(rows: &[Items<usize>], index: usize) -> &[usize]
         Some(row) => row.as_slice(),
         None => &[],
     }
-}
-
-/// The index that the file at one of so many has, once a file comes to another.
-fn index_then(index: usize, at: usize, count: usize) -> usize
-    ensures { index < count → result ≡ raised at index }
-{
-    if index >= count {
-        return index;
-    }
-    if index >= at { index + 1 } else { index }
 }
 
 /// What is known of the file at an index, if there is one.
@@ -70,6 +62,16 @@ fn own_name(unit: &FileName) -> &[FileName]
     }
 }
 
+/// What was found, or what there was where nothing was.
+fn found_or<'a>(found: &'a Option<Linked>, before: &'a Linked) -> &'a Linked
+    ensures { MatchOption found.now (result.now ≡ before.now) (λ links. result.now ≡ links) }
+{
+    match found {
+        Some(links) => links,
+        None => before,
+    }
+}
+
 /// What the units of a project read and use, and which of them in circles. In contracts it is the project: all that it
 /// answers is what the definitions give of that.
 pub struct Graph {
@@ -81,8 +83,8 @@ pub struct Graph {
     /// Of each file the indices of the others that read it, once they were asked for; after edits that leave all reads as they
     /// were they are the same.
     readers: Option<Items<Items<usize>>>,
-    /// The indices of files among which are all that read or use one that is not there, if such are known.
-    lacking: Option<Items<usize>>,
+    /// Of each name the files among which are all others that read it, and all that use it if it is not there, if that is known.
+    lookers: Option<Lookers>,
 }
 
 /// Written out: crates above call it, where each would prove a derived one anew.
@@ -93,7 +95,7 @@ impl Drop for Graph {
             facts: _,
             links: _,
             readers: _,
-            lacking: _,
+            lookers: _,
         } = self;
     }
 }
@@ -115,7 +117,7 @@ impl Model for Graph {
 
     ghost view = { λ graph. graph.project };
 
-    ghost invariant = { λ graph. IsGraph graph.project graph.facts.items graph.links graph.readers graph.lacking };
+    ghost invariant = { λ graph. IsGraph graph.project graph.facts.items graph.links graph.readers graph.lookers };
 }
 
 /// The graph of a project, which it keeps.
@@ -129,7 +131,7 @@ fn keep(alloc: Global, project: Project) -> Result<Graph, AllocError>
         facts,
         links,
         readers: None,
-        lacking: None,
+        lookers: None,
     })
 }
 
@@ -143,7 +145,7 @@ impl Graph {
             facts: Vec::new(alloc),
             links: Linked::new(alloc),
             readers: None,
-            lacking: Some(Items::new(alloc)),
+            lookers: None,
         }
     }
 
@@ -186,12 +188,15 @@ impl Graph {
         Some(at)
     }
 
-    /// Whether the file at an index, if there is one, may read one of that name, which is not there.
-    fn may_read_at(&self, index: usize, name: FileName) -> bool
+    /// Whether a file of the one name, if there is one, may read one of the other, which is not there.
+    fn may_file_read(&self, unit: FileName, name: FileName) -> bool
         requires { spec_index name self.now ≡ None }
-        ensures { IsFalse result → index < length self.now → is_among (read_names self.now (name_at self.now index)) name ≡ false }
+        ensures { IsFalse result → is_some (index unit self.now) ≡ true → is_among (read_names self.now unit) name ≡ false }
     {
-        index < self.project.files().len() && self.may_read(index, name)
+        match self.project.index(unit) {
+            Some(index) => self.may_read(index, name),
+            None => false,
+        }
     }
 
     /// Whether any file may read one of that name, which is not there.
@@ -199,20 +204,22 @@ impl Graph {
         requires { spec_index name self.now ≡ None }
         ensures { IsFalse result → (p : ℕ) → p < length self.now → is_among (read_names self.now (name_at self.now p)) name ≡ false }
     {
-        match &self.lacking {
-            Some(indices) => self.may_one_read(indices.as_slice(), name),
+        match &self.lookers {
+            Some(lookers) => self.may_one_read(lookers, name),
             None => self.may_all_read(name),
         }
     }
 
-    /// The same, where no file looks for one that is not there but those at these indices.
-    fn may_one_read(&self, indices: &[usize], name: FileName) -> bool
-        requires lacking { AreLacking self.now (Some indices.now) }
+    /// The same, where it is known who looks for it.
+    fn may_one_read(&self, lookers: &Lookers, name: FileName) -> bool
+        requires lookers { AreLookers self.now lookers.now }
         requires absent { spec_index name self.now ≡ None }
         ensures { IsFalse result → (p : ℕ) → p < length self.now → is_among (read_names self.now (name_at self.now p)) name ≡ false }
     {
-        for index in indices {
-            if self.may_read_at(*index, name) {
+        let _files = self.project.files();
+        let row = lookers.row(name);
+        for unit in row {
+            if self.may_file_read(*unit.get(), name) {
                 return true;
             }
         }
@@ -264,7 +271,6 @@ impl Graph {
             revision,
             source,
         };
-        let lacking = self.lacking_with(alloc, at)?;
         let marks = self.users_of(alloc, name)?;
         add_used_file(
             alloc,
@@ -276,7 +282,14 @@ impl Graph {
             file,
         )?;
         self.readers = None;
-        self.lacking = lacking;
+        self.lookers = lookers_with(
+            alloc,
+            self.lookers.take(),
+            &self.project,
+            self.facts.as_slice(),
+            &self.links,
+            at,
+        );
         Ok(())
     }
 
@@ -301,20 +314,22 @@ impl Graph {
             &project,
             name,
         )?;
-        let Some(links) = self.links_after(alloc, &project, facts.as_slice(), name)? else {
-            self.project = project;
-            self.facts = facts;
-            self.readers = None;
-            self.lacking = None;
+        let found = self.links_after(alloc, &project, facts.as_slice(), name)?;
+        self.lookers = lookers_after(
+            alloc,
+            self.lookers.take(),
+            &project,
+            facts.as_slice(),
+            found_or(&found, &self.links),
+            name,
+        );
+        self.project = project;
+        self.facts = facts;
+        self.readers = None;
+        let Some(links) = found else {
             return Ok(true);
         };
-        *self = Graph {
-            project,
-            facts,
-            links,
-            readers: None,
-            lacking: None,
-        };
+        self.links = links;
         Ok(false)
     }
 
@@ -335,13 +350,16 @@ impl Graph {
         may_use(facts, self.links.targets(index).count(), name)
     }
 
-    /// The same of the file at an index, if there is one.
-    fn may_look_for_at(&self, index: usize, name: FileName) -> bool
+    /// The same of a file of that name, if there is one.
+    fn may_file_look_for(&self, unit: FileName, name: FileName) -> bool
         requires { spec_index name self.now ≡ None }
-        ensures unread { IsFalse result → index < length self.now → is_among (read_names self.now (name_at self.now index)) name ≡ false }
-        ensures unused { IsFalse result → index < length self.now → is_among (used_units self.now (name_at self.now index)) name ≡ false }
+        ensures unread { IsFalse result → is_some (index unit self.now) ≡ true → is_among (read_names self.now unit) name ≡ false }
+        ensures unused { IsFalse result → is_some (index unit self.now) ≡ true → is_among (used_units self.now unit) name ≡ false }
     {
-        index < self.project.files().len() && self.may_look_for(index, name)
+        match self.project.index(unit) {
+            Some(index) => self.may_look_for(index, name),
+            None => false,
+        }
     }
 
     /// Whether any file may do so.
@@ -350,21 +368,23 @@ impl Graph {
         ensures unread { IsFalse result → (p : ℕ) → p < length self.now → is_among (read_names self.now (name_at self.now p)) name ≡ false }
         ensures unused { IsFalse result → (p : ℕ) → p < length self.now → is_among (used_units self.now (name_at self.now p)) name ≡ false }
     {
-        match &self.lacking {
-            Some(indices) => self.may_one_look_for(indices.as_slice(), name),
+        match &self.lookers {
+            Some(lookers) => self.may_one_look_for(lookers, name),
             None => self.may_all_look_for(name),
         }
     }
 
-    /// The same, where no file looks for one that is not there but those at these indices.
-    fn may_one_look_for(&self, indices: &[usize], name: FileName) -> bool
-        requires lacking { AreLacking self.now (Some indices.now) }
+    /// The same, where it is known who looks for it.
+    fn may_one_look_for(&self, lookers: &Lookers, name: FileName) -> bool
+        requires lookers { AreLookers self.now lookers.now }
         requires absent { spec_index name self.now ≡ None }
         ensures unread { IsFalse result → (p : ℕ) → p < length self.now → is_among (read_names self.now (name_at self.now p)) name ≡ false }
         ensures unused { IsFalse result → (p : ℕ) → p < length self.now → is_among (used_units self.now (name_at self.now p)) name ≡ false }
     {
-        for index in indices {
-            if self.may_look_for_at(*index, name) {
+        let _files = self.project.files();
+        let row = lookers.row(name);
+        for unit in row {
+            if self.may_file_look_for(*unit.get(), name) {
                 return true;
             }
         }
@@ -385,74 +405,38 @@ impl Graph {
         false
     }
 
-    /// Whether the file at an index, if there is one, is known to look for none that is not there.
-    fn is_whole(&self, index: usize) -> bool
-        ensures { IsTrue result → index < length self.now → IsLookingForNone self.now (name_at self.now index) }
-    {
-        let _files = self.project.files();
-        match facts_at(self.facts.as_slice(), index) {
-            Some(facts) => is_whole(facts, self.links.targets(index).count()),
-            None => false,
-        }
-    }
-
-    /// Adds the index that the file at one has, once a file comes to another index, unless it is known to look for none that is not
-    /// there.
-    fn add_lacking(
-        &self,
-        lacking: &mut Items<usize>,
-        at: usize,
-        index: usize,
-    ) -> Result<(), AllocError>
-        ensures more { OnOk result ((p : ℕ) → spec_is_among lacking.old p ≡ true → spec_is_among lacking.new p ≡ true) }
-        ensures this { OnOk result (index < length self.now → (spec_is_among lacking.new (raised at index) ≡ true) ⊎ IsLookingForNone self.now (name_at self.now index)) }
-    {
-        if self.is_whole(index) {
-            return Ok(());
-        }
-        lacking.push(index_then(index, at, self.project.files().len()))?;
-        Ok(())
-    }
-
-    /// The indices that files have, once one comes to an index, among which are its own and those of all that look for one that is not
-    /// there, where these are such indices before it.
-    fn lacking_of(
-        &self,
-        alloc: Global,
-        indices: &[usize],
-        at: usize,
-    ) -> Result<Items<usize>, AllocError>
-        requires { AreLacking self.now (Some indices.now) }
-        ensures { IfOk result (λ lacking. AreLackingThen self.now at lacking) }
-    {
-        let mut lacking = Items::new(alloc);
-        lacking.push(at)?;
-        for index in indices {
-            self.add_lacking(&mut lacking, at, *index)?;
-        }
-        Ok(lacking)
-    }
-
-    /// The same, if such are known.
-    fn lacking_with(&self, alloc: Global, at: usize) -> Result<Option<Items<usize>>, AllocError>
-        ensures { IfOk result (λ lacking. AreLackingWith self.now at lacking) }
-    {
-        match &self.lacking {
-            Some(indices) => Ok(Some(self.lacking_of(alloc, indices.as_slice(), at)?)),
-            None => Ok(None),
-        }
-    }
-
     /// Of each file whether it uses one of that name, which is not there.
     fn users_of(&self, alloc: Global, name: FileName) -> Result<Items<bool>, AllocError>
         requires { spec_index name self.now ≡ None }
         ensures { IfOk result (λ marks. marks ≡ map (λ facts. is_among facts.uses name) (spec_all_facts self.now)) }
     {
-        let facts = self.facts.as_slice();
-        match &self.lacking {
-            Some(indices) => users_among(alloc, facts, &self.links, indices.as_slice(), name),
-            None => users_of(alloc, facts, &self.links, name),
+        match &self.lookers {
+            Some(lookers) => self.noted_users_of(alloc, lookers, name),
+            None => users_of(alloc, self.facts.as_slice(), &self.links, name),
         }
+    }
+
+    /// The same, where it is known who looks for it.
+    fn noted_users_of(
+        &self,
+        alloc: Global,
+        lookers: &Lookers,
+        name: FileName,
+    ) -> Result<Items<bool>, AllocError>
+        requires lookers { AreLookers self.now lookers.now }
+        requires absent { spec_index name self.now ≡ None }
+        ensures { IfOk result (λ marks. marks ≡ map (λ facts. is_among facts.uses name) (spec_all_facts self.now)) }
+    {
+        let _files = self.project.files();
+        let names = names_of(alloc, lookers.row(name))?;
+        let indices = indices_of(alloc, &self.project, 0, None, names.as_slice())?;
+        users_among(
+            alloc,
+            self.facts.as_slice(),
+            &self.links,
+            indices.as_slice(),
+            name,
+        )
     }
 
     /// Where a file of that name would stand, if there is none, and no file is found to read or use one.
@@ -486,7 +470,6 @@ impl Graph {
             revision,
             source,
         };
-        let lacking = self.lacking_with(alloc, at)?;
         add_file(
             alloc,
             &mut self.project,
@@ -496,8 +479,55 @@ impl Graph {
             file,
         )?;
         self.readers = None;
-        self.lacking = lacking;
+        self.lookers = lookers_with(
+            alloc,
+            self.lookers.take(),
+            &self.project,
+            self.facts.as_slice(),
+            &self.links,
+            at,
+        );
         Ok(())
+    }
+
+    /// Whether a file of the one name, if there is one, is another and reads one of the other name.
+    fn does_other_read(&self, unit: FileName, name: FileName) -> bool
+        ensures { IsFalse result → bytes_eq unit name ≡ false → is_some (index unit self.now) ≡ true → is_among (read_names self.now unit) name ≡ false }
+    {
+        if unit == name {
+            return false;
+        }
+        match self.facts_of(0, unit) {
+            Some(facts) => does_read(facts, name),
+            None => false,
+        }
+    }
+
+    /// Whether no file reads the one at an index but itself, if it is known who looks for what.
+    fn is_read_by_no_other(&self, index: usize) -> bool
+        requires { index < length self.now }
+        ensures { IsTrue result → spec_others index (readers_at self.now index) ≡ [] }
+    {
+        let _files = self.project.files();
+        match &self.lookers {
+            Some(lookers) => self.does_none_read(lookers, self.project.name_at(index)),
+            None => false,
+        }
+    }
+
+    /// Whether no other file reads one of that name, where it is known who looks for it.
+    fn does_none_read(&self, lookers: &Lookers, name: FileName) -> bool
+        requires { AreLookers self.now lookers.now }
+        ensures { IsTrue result → (p : ℕ) → p < length self.now → bytes_eq (name_at self.now p) name ≡ false → is_among (read_names self.now (name_at self.now p)) name ≡ false }
+    {
+        let _files = self.project.files();
+        let row = lookers.row(name);
+        for unit in row {
+            if self.does_other_read(*unit.get(), name) {
+                return false;
+            }
+        }
+        true
     }
 
     /// The indices of the units that read the file at an index, in order. The first time all are found.
@@ -508,6 +538,9 @@ impl Graph {
     {
         if let Some(rows) = &self.readers {
             return with_itself(alloc, &self.project, row(rows.as_slice(), index), index);
+        }
+        if self.is_read_by_no_other(index) {
+            return with_itself(alloc, &self.project, &[], index);
         }
         let rows = find_readers(alloc, &self.project, self.facts.as_slice())?;
         let readers = with_itself(alloc, &self.project, row(rows.as_slice(), index), index)?;
@@ -553,7 +586,6 @@ impl Graph {
         }
         let _files = self.project.files();
         let again = Shared::new(alloc, share(file)?)?;
-        self.lacking = None;
         let alike = renew(
             alloc,
             &mut self.project,
@@ -565,26 +597,28 @@ impl Graph {
         Ok(alike)
     }
 
-    /// The same of a file that at most one unit reads, itself for the most part, where it may be open as it was not.
-    fn set_unread(&mut self, alloc: Global, index: usize, file: &Read) -> Result<bool, AllocError>
-        requires { spec_index file.now.name self.old ≡ Some index }
+    /// The same of a file that may be open as it was not.
+    fn set_unread(
+        &mut self,
+        alloc: Global,
+        index: usize,
+        readers: &[usize],
+        file: &Read,
+    ) -> Result<bool, AllocError>
+        requires index { spec_index file.now.name self.old ≡ Some index }
+        requires readers { readers.now ≡ readers_at self.old index }
         ensures ok { IfOk result (λ done. done ≡ true → self.new ≡ put self.old file.now) }
         ensures other { IfOk result (λ done. done ≡ false → self.new ≡ self.old) }
         ensures err { OnErr result (self.new ≡ self.old) }
     {
         let _files = self.project.files();
-        let readers = self.readers(alloc, index)?;
-        if readers.len() > 1 {
-            return Ok(false);
-        }
         let again = Shared::new(alloc, share(file)?)?;
-        self.lacking = None;
         let done = renew(
             alloc,
             &mut self.project,
             &mut self.facts,
             index,
-            readers.as_slice(),
+            readers,
             again,
         )?;
         Ok(done)
@@ -612,7 +646,8 @@ impl Graph {
         ensures ok { OnOk result (self.new ≡ put self.old file) }
         ensures err { OnErr result (self.new ≡ self.old) }
     {
-        if self.set_unread(alloc, index, &file)? {
+        let readers = self.readers(alloc, index)?;
+        if readers.len() <= 1 && self.set_unread(alloc, index, readers.as_slice(), &file)? {
             return Ok(());
         }
         self.put_read(alloc, file.name, file.revision, file.source)?;
@@ -693,7 +728,7 @@ impl Graph {
         ensures { result.now ≡ used_units self.now unit }
     {
         match self.facts_of(hint, unit) {
-            Some(facts) => facts.uses.as_slice(),
+            Some(facts) => facts.uses.get().as_slice(),
             None => &[],
         }
     }

@@ -40,7 +40,7 @@ fn is_name_found(names: &[FileName], name: FileName) -> bool
 fn does_use(facts: &Facts, place: usize, name: FileName) -> bool
     ensures { result ≡ is_among facts.now.uses name }
 {
-    let names = facts.uses.as_slice();
+    let names = facts.uses.get().as_slice();
     is_name_at(names, place, name) || is_name_found(names, name) || is_name_among(names, name)
 }
 
@@ -174,7 +174,7 @@ fn add_known(
 {
     let name = project.name_at(at);
     let known = facts_of(alloc, project, at, name, &mut None)?;
-    let targets = indices_of(alloc, project, 0, None, known.uses.as_slice())?;
+    let targets = indices_of(alloc, project, 0, None, known.uses.get().as_slice())?;
     let shared = Shared::new(alloc, known)?;
     if !targets.is_empty() {
         return add_known_anew(alloc, project, facts, links, at, shared);

@@ -9,11 +9,13 @@ mod inserting;
 mod joining;
 pub mod laws;
 mod links;
+mod lookers;
 mod ordering;
 mod project;
 mod readers;
 mod renewing;
 pub mod rows;
+mod seeking;
 mod skimming;
 mod standing;
 

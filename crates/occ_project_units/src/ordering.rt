@@ -1,9 +1,10 @@
-//! Units in order of name. What was put in order last is remembered, since files that use one library use the same units.
+//! Units in order of name. What was put in order last is remembered and shared, since files that use one library use the same
+//! units.
 ghost use Rattle.occ_project.specs.Uses.{names_in_order};
 ghost use Rattle.std.specs.Prelude.{IfOk, ◌≡◌};
 
 use super::following::are_same_names;
-use occ_base::{FileName, Items};
+use occ_base::{FileName, Items, Shared};
 use occ_project::units_in_order;
 use std::alloc::{AllocError, Global};
 use std::marker::Model;
@@ -15,7 +16,7 @@ const REMEMBERED_LEAST: usize = 16;
 #[derive(Drop)]
 pub struct Ordered {
     units: Items<FileName>,
-    ordered: Items<FileName>,
+    ordered: Shared<Items<FileName>>,
 }
 
 impl Model for Ordered {
@@ -37,14 +38,14 @@ fn put_in_order_and_remember(
     alloc: Global,
     units: Items<FileName>,
     last: &mut Option<Ordered>,
-) -> Result<Items<FileName>, AllocError>
+) -> Result<Shared<Items<FileName>>, AllocError>
     ensures { IfOk result (λ ordered. ordered ≡ names_in_order units) }
 {
     let before = Items::from_slice(alloc, units.as_slice())?;
-    let ordered = units_in_order(alloc, units)?;
+    let ordered = Shared::new(alloc, units_in_order(alloc, units)?)?;
     *last = Some(Ordered {
         units: before,
-        ordered: Items::from_slice(alloc, ordered.as_slice())?,
+        ordered: ordered.share()?,
     });
     Ok(ordered)
 }
@@ -55,15 +56,15 @@ pub fn in_order(
     alloc: Global,
     units: Items<FileName>,
     last: &mut Option<Ordered>,
-) -> Result<Items<FileName>, AllocError>
+) -> Result<Shared<Items<FileName>>, AllocError>
     ensures { IfOk result (λ ordered. ordered ≡ names_in_order units) }
 {
     if units.len() < REMEMBERED_LEAST {
-        return units_in_order(alloc, units);
+        return Shared::new(alloc, units_in_order(alloc, units)?);
     }
     match last {
         Some(found) if are_same_names(found.units.as_slice(), units.as_slice()) => {
-            Items::from_slice(alloc, found.ordered.as_slice())
+            found.ordered.share()
         }
         _ => put_in_order_and_remember(alloc, units, last),
     }

@@ -42,7 +42,10 @@ fn is_as_before(before: Option<&Shared<Facts>>, now: Option<&Shared<Facts>>) -> 
     match (before, now) {
         (Some(before), Some(now)) => {
             are_same_names(before.get().reads.as_slice(), now.get().reads.as_slice())
-                && are_same_names(before.get().uses.as_slice(), now.get().uses.as_slice())
+                && are_same_names(
+                    before.get().uses.get().as_slice(),
+                    now.get().uses.get().as_slice(),
+                )
         }
         _ => false,
     }

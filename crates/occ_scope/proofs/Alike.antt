@@ -1,7 +1,9 @@
 -- What is remembered of types stays true.
 use Rattle.std.proofs.Common.{◌≡◌, ◌⊎◌, ◌≤◌, ◌<◌, ◌+◌, ◌-◌, ℕ, zero, suc, List, [], ◌∷◌, ◌++◌, length, Option, Some, None, MatchOption, slice_get, slice_set, arith, ap, sym, ◌∙◌, refl, inl, inr, subst, length-append}
 use Rattle.std.proofs.lemmas.Option.{slice_get_within}
-use Rattle.occ_scope.specs.Elements.{type_at, type_of}
+use Rattle.occ_types.specs.declared.interface.Formal.{Formal}
+use Rattle.occ_types.specs.declared.types.OccType.{OccType}
+use Rattle.occ_scope.specs.Elements.{formal_type, formal_types, type_at, type_of}
 use Rattle.occ_scope.specs.declared.meaning.Meaning.{Meaning}
 use Rattle.occ_scope.specs.inside.Alike.{AreAlike, IsAlike}
 
@@ -126,3 +128,21 @@ note_more meanings alike new itself is e same = subst (AreAlike meanings) (sym (
 
 pub note_set : (meanings : List Meaning) (alike new : List ℕ) (place other : ℕ) → new ≡ slice_set alike place other → other ≤ place → type_at meanings other ≡ type_at meanings place → AreAlike meanings alike → AreAlike meanings new
 note_set meanings alike new place other e h is same = subst (AreAlike meanings) (sym e) (alike_set meanings alike place other h is same)
+
+-- ---- formals of a function, and its results after them
+
+pub formal_in : (formals : List Formal) (results : List OccType) (k : ℕ) (formal : Formal) → slice_get formals k ≡ Some formal → slice_get (formal_types formals ++ results) k ≡ Some formal.of
+formal_in [] results k formal is = absurd cc
+formal_in (f ∷ fs) results zero formal is = ap (λ (x : Option Formal). formal_type x) is
+formal_in (f ∷ fs) results (suc k) formal is = formal_in fs results k formal is
+
+less_none : (k : ℕ) → k ≡ k - 0
+less_none k = omega arith
+
+less_one : (k n : ℕ) → k - n ≡ suc k - suc n
+less_one k n = omega arith
+
+pub result_in : (formals : List Formal) (results : List OccType) (k : ℕ) → slice_get formals k ≡ None → slice_get (formal_types formals ++ results) k ≡ slice_get results (k - length formals)
+result_in [] results k is = ap (slice_get results) (less_none k)
+result_in (f ∷ fs) results zero is = absurd cc
+result_in (f ∷ fs) results (suc k) is = result_in fs results k is ∙ ap (slice_get results) (less_one k (length fs))

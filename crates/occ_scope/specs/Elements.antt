@@ -1,5 +1,6 @@
--- The type of what a name stands for, if that is an element, and of the formals of a procedure.
-use Rattle.std.specs.Prelude.{ℕ, List, Option, Some, None}
+-- The type of what a name stands for, if that is an element, of the formals of a procedure, and of those of a function and
+-- its results.
+use Rattle.std.specs.Prelude.{ℕ, List, [], ◌∷◌, ◌++◌, Option, Some, None}
 use Rattle.std.specs.List.{slice_get}
 use Rattle.occ_types.specs.declared.interface.Formal.{Formal}
 use Rattle.occ_types.specs.declared.types.OccType.{OccType}
@@ -20,14 +21,19 @@ abbrev pub formal_type : Option Formal → Option OccType
 formal_type None = None
 formal_type (Some formal) = Some formal.of
 
--- the type of a formal of what is meant, if that is a procedure with so many
+abbrev pub formal_types : List Formal → List OccType
+formal_types [] = []
+formal_types (formal ∷ formals) = formal.of ∷ formal_types formals
+
+-- the type of a formal of what is meant, if that is a procedure or a function with so many; the results of a function stand
+-- after its formals
 abbrev pub formal_of : Option Meaning → ℕ → Option OccType
 formal_of None k = None
 formal_of (Some m.Faulty) k = None
 formal_of (Some (m.Type of)) k = None
 formal_of (Some (m.Protocol p)) k = None
 formal_of (Some (m.Procedure formals)) k = formal_type (slice_get formals k)
-formal_of (Some (m.Function formals results)) k = None
+formal_of (Some (m.Function formals results)) k = slice_get (formal_types formals ++ results) k
 formal_of (Some (m.Element whole)) k = None
 
 -- by the numbers of their specifications

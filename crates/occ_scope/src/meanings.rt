@@ -5,12 +5,12 @@
 ghost use Rattle.std.specs.Prelude.{◌≡◌, ◌⊎◌, ◌≤◌, ◌-◌, ◌++◌, ◌∷◌, [], IfOk, IsTrue, MatchOption, None, OnErr, OnOk, Some, length, take};
 ghost use Rattle.std.specs.Option.{option_copied};
 ghost use Rattle.std.specs.List.{slice_get};
-ghost use Rattle.occ_scope.specs.Elements.{formal_at as spec_formal_at, type_at as spec_type_at};
+ghost use Rattle.occ_scope.specs.Elements.{formal_at as spec_formal_at, formal_types, type_at as spec_type_at};
 
 use super::meaning::Meaning;
 use super::scopes::SpecId;
 use occ_base::{Items, Shared};
-use occ_types::{OccType, same_type};
+use occ_types::{Formal, OccType, same_type};
 use std::alloc::{AllocError, Global};
 use std::marker::Model;
 
@@ -46,6 +46,21 @@ fn pointed_to(alike: &Items<SpecId>, place: SpecId) -> SpecId
     match alike.get(place) {
         Some(other) => *other,
         None => place,
+    }
+}
+
+/// The type of a formal of a function, or of a result after them.
+#[tactic(auto, using(crate::proofs::Alike::formal_in, crate::proofs::Alike::result_in))]
+fn in_function<'a>(
+    formals: &'a Items<Formal>,
+    results: &'a Items<Shared<OccType>>,
+    place: usize,
+) -> Option<&'a OccType>
+    ensures { MatchOption result (slice_get (formal_types formals.now ++ results.now) place ≡ None) (λ of. slice_get (formal_types formals.now ++ results.now) place ≡ Some of.now) }
+{
+    match formals.get(place) {
+        Some(formal) => Some(formal.of.get()),
+        None => Some(results.get(place - formals.len())?.get()),
     }
 }
 
@@ -103,12 +118,14 @@ impl Meanings {
         }
     }
 
-    /// The type of a formal of the procedure that the specification of this number names.
+    /// The type of a formal of the procedure or the function that the specification of this number names. The results of a
+    /// function stand after its formals.
     pub(crate) fn formal_at(&self, place: SpecId, formal: usize) -> Option<&OccType>
         ensures { MatchOption result (spec_formal_at self.now place formal ≡ None) (λ of. spec_formal_at self.now place formal ≡ Some of.now) }
     {
         match self.meanings.get(place)?.get() {
             Meaning::Procedure(formals) => Some(formals.get().get(formal)?.of.get()),
+            Meaning::Function(formals, results) => { in_function(formals.get(), results, formal) }
             _ => None,
         }
     }
@@ -129,6 +146,27 @@ impl Meanings {
             place = further;
         }
         place
+    }
+
+    /// The first of those that are known to be of the type of this one, where nothing changes.
+    fn root_of(&self, from: SpecId) -> SpecId
+        ensures { spec_type_at self.now result ≡ spec_type_at self.now from }
+    {
+        let mut place = from;
+        while let Some(next) = self.alike.get(place) {
+            if *next == place {
+                return place;
+            }
+            place = *next;
+        }
+        place
+    }
+
+    /// Whether two specifications are known to name elements of one type.
+    pub(crate) fn are_known_alike(&self, a: SpecId, b: SpecId) -> bool
+        ensures { IsTrue result → spec_type_at self.now a ≡ spec_type_at self.now b }
+    {
+        a == b || self.root_of(a) == self.root_of(b)
     }
 
     /// There is one each for this one and those before it.

@@ -122,6 +122,51 @@ impl Scope {
         self.meanings.takes(procedure, formal, actual)
     }
 
+    /// Whether a formal of what one name stands for is known to be of the type of the element that another stands for.
+    pub fn is_known_to_take(&self, procedure: &Name, formal: usize, actual: &Name) -> bool
+        ensures { IsTrue result → formal_of (visible self.now procedure.now) formal ≡ type_of (visible self.now actual.now) }
+    {
+        let (Some(procedure), Some(actual)) = (self.names.find(procedure), self.names.find(actual))
+        else {
+            return false;
+        };
+        self.meanings.is_known_to_take(procedure, formal, actual)
+    }
+
+    /// Whether a result of the function that one name stands for is known to be of the type of a formal of what another
+    /// stands for.
+    pub fn is_known_to_pass(
+        &self,
+        giver: &Name,
+        result_place: usize,
+        taker: &Name,
+        formal: usize,
+    ) -> bool
+        ensures { IsTrue result → formal_of (visible self.now giver.now) result_place ≡ formal_of (visible self.now taker.now) formal }
+    {
+        let (Some(giver), Some(taker)) = (self.names.find(giver), self.names.find(taker)) else {
+            return false;
+        };
+        self.meanings
+            .is_known_to_pass(giver, result_place, taker, formal)
+    }
+
+    /// A result of a function is compared with a formal, if something is remembered of either.
+    pub fn pass(
+        &mut self,
+        giver: &Name,
+        result_place: usize,
+        taker: &Name,
+        formal: usize,
+    ) -> Result<(), AllocError>
+        ensures { self.new ≡ self.old }
+    {
+        let (Some(giver), Some(taker)) = (self.names.find(giver), self.names.find(taker)) else {
+            return Ok(());
+        };
+        self.meanings.pass(giver, result_place, taker, formal)
+    }
+
     /// The same of an entry.
     fn enter_entry(&mut self, alloc: Global, entry: &ScopeEntry) -> Result<(), AllocError>
         ensures ok { OnOk result (self.new ≡ entered self.old entry.now.name entry.now.meaning) }

@@ -1,5 +1,5 @@
-//! What the specifications in scope stand for, and which formals of procedures are known to be of the type of an element. So a
-//! formal of a wide type is compared at the first call alone.
+//! What the specifications in scope stand for, and which formals are known to be of the type of an element, and which results of
+//! functions, which stand after the formals there. So a formal of a wide type is compared at the first call alone.
 #![tactic(auto, using(crate::proofs::Taken::none_noted))]
 
 ghost use Rattle.std.specs.Prelude.{◌≡◌, ◌<◌, ◌≤◌, ◌++◌, ◌-◌, ◌∷◌, [], IfOk, IfSome, IsTrue, OnErr, OnOk, length, take, ℕ};
@@ -18,7 +18,7 @@ use std::marker::Model;
 /// So many formals are remembered at most.
 const MOST: usize = 128;
 
-/// A formal of a procedure in scope, and an element in scope of the same type.
+/// A formal of a procedure or a function in scope, or a result of the function, and an element in scope of the same type.
 #[derive(Clone, Copy)]
 pub(crate) struct Taken {
     procedure: SpecId,
@@ -186,5 +186,54 @@ impl Taking {
             formal,
             actual,
         })
+    }
+
+    /// Whether it is known that a formal is of the type of an element.
+    pub(crate) fn is_known_to_take(&self, procedure: SpecId, formal: usize, actual: SpecId) -> bool
+        ensures { IsTrue result → spec_formal_at self.now procedure formal ≡ type_at self.now actual }
+    {
+        match self.taken_by(procedure, formal) {
+            Some(before) => self.meanings.are_known_alike(before, actual),
+            None => false,
+        }
+    }
+
+    /// Whether it is known that a formal is of the type of a result, or of another formal.
+    pub(crate) fn is_known_to_pass(
+        &self,
+        giver: SpecId,
+        result_place: usize,
+        taker: SpecId,
+        formal: usize,
+    ) -> bool
+        ensures { IsTrue result → spec_formal_at self.now giver result_place ≡ spec_formal_at self.now taker formal }
+    {
+        match (
+            self.taken_by(giver, result_place),
+            self.taken_by(taker, formal),
+        ) {
+            (Some(one), Some(other)) => self.meanings.are_known_alike(one, other),
+            _ => false,
+        }
+    }
+
+    /// A result is compared with the element that is remembered for a formal, or the other way round.
+    pub(crate) fn pass(
+        &mut self,
+        giver: SpecId,
+        result_place: usize,
+        taker: SpecId,
+        formal: usize,
+    ) -> Result<(), AllocError>
+        ensures { self.new ≡ self.old }
+    {
+        if let Some(before) = self.taken_by(taker, formal) {
+            self.takes(giver, result_place, before)?;
+            return Ok(());
+        }
+        if let Some(before) = self.taken_by(giver, result_place) {
+            self.takes(taker, formal, before)?;
+        }
+        Ok(())
     }
 }

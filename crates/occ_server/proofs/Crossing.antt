@@ -70,6 +70,7 @@ use Rattle.occ_board.specs.contracts.cached.Cached as cached
 use Rattle.occ_board.specs.contracts.waiting.Waiting as waiting
 use Rattle.occ_project_units.specs.contracts.project.Project as project
 use Rattle.occ_project_units.specs.contracts.facts.Facts as facts
+use Rattle.occ_project_units.specs.contracts.lookers.Lookers as lookers
 use Rattle.occ_project_graph.specs.contracts.linked.Linked as links
 use Rattle.sqlite_items.specs.contracts.items.Items as items_of
 use Rattle.occ_base.specs.contracts.diag.Diag as diag_of
@@ -495,13 +496,13 @@ project_field_send : IsSend project.the_field.row
 project_field_send = search (sendable, Vec-send, shared_read_send) depth 30
 
 facts_field_send : IsSend facts.the_field.row
-facts_field_send = search (sendable, items.the_send, shared.the_send, Vec-send, file_name_cross.the_send) depth 30
+facts_field_send = search (sendable, names_send, shared_names_send) depth 30
 
 facts_send : IsSend facts.the_row
 facts_send = search (sendable, facts_field_send) depth 10
 
 facts_field_sync : IsSync facts.the_field.row
-facts_field_sync = search (sendable, items.the_sync, shared.the_sync, Vec-sync, file_name_cross.the_sync) depth 30
+facts_field_sync = search (sendable, names_sync, shared_names_sync) depth 30
 
 facts_sync : IsSync facts.the_row
 facts_sync = search (sendable, facts_field_sync) depth 10
@@ -521,8 +522,17 @@ numbers_send = items.the_send (items_of.the_row usize) row_send
 links_field_send : IsSend links.the_field.row
 links_field_send = search (sendable, Vec-send, row_send, number_send) depth 30
 
+shared_name_row_send : IsSend (items_of.the_row (shared_of.the_row file_name_of.the_row))
+shared_name_row_send = items.the_send (shared_of.the_row file_name_of.the_row) shared_name_send
+
+lookers_field_send : IsSend lookers.the_field.row
+lookers_field_send = search (sendable, Vec-send, shared_name_row_send, number_send) depth 30
+
+lookers_send : IsSend lookers.the_row
+lookers_send = search (sendable, lookers_field_send) depth 10
+
 graph_field_send : IsSend graph.the_field.row
-graph_field_send = search (sendable, Vec-send, project_field_send, shared_facts_send, links_field_send, numbers_send, row_send) depth 30
+graph_field_send = search (sendable, Vec-send, project_field_send, shared_facts_send, links_field_send, lookers_send, numbers_send, row_send) depth 30
 
 cached_field_send : IsSend cached.the_field.row
 cached_field_send = search (sendable, Vec-send, BTreeMap-send, outcome_field_send, file_name_cross.the_send) depth 30

@@ -4,7 +4,6 @@
 
 mod abbreviate;
 mod assign;
-mod call;
 mod choose;
 mod count;
 mod dimensions;
@@ -24,7 +23,6 @@ pub mod tree_rows;
 
 pub use abbreviate::{abbreviated, abbreviated_as};
 pub use assign::{assigned, target};
-pub use call::matched;
 pub use choose::{condition, options, selector};
 pub use count::of_another_number;
 pub use element::known_of;

@@ -3,6 +3,7 @@ pub mod Fronts
 pub mod Operands
 pub mod Times
 pub mod Both
-pub mod Fitting
 pub mod Named
 pub mod Taking
+pub mod Given
+pub mod Unseen

@@ -1,11 +1,10 @@
 -- A name alone is a value for another of the same type: nothing is reported of it.
-use Rattle.std.proofs.Common.{◌≡◌, ◌∙◌, ◌++◌, ℕ, Bool, true, List, [], ◌∷◌, Option, Some, None, if◌then◌else◌, refl, ap, sym, subst}
+use Rattle.std.proofs.Common.{◌≡◌, ◌∙◌, ◌++◌, ℕ, Bool, true, List, [], ◌∷◌, Option, Some, None, if◌then◌else◌, refl, ap, sym}
 use Rattle.occ_base.specs.declared.code.Code.TheVariants as code
 use Rattle.occ_base.specs.Reporting.{nameless}
 use Rattle.occ_base.specs.declared.fault.Fault.{Fault}
-use Rattle.occ_types.specs.Fits.{fits, is_data}
+use Rattle.occ_types.specs.Fits.{is_data}
 use Rattle.occ_types.specs.declared.types.OccType.{OccType}
-use Rattle.occ_types.specs.declared.value.Value.{Value}
 use Rattle.occ_forms_expressions.specs.declared.tree.Element.{Element}
 use Rattle.occ_forms_expressions.specs.declared.tree.Element.TheVariants as elements
 use Rattle.occ_forms_expressions.specs.declared.tree.Expr.{Expr}
@@ -19,7 +18,6 @@ use Rattle.occ_scope.specs.declared.meaning.Access.TheVariants as access
 use Rattle.occ_scope.specs.declared.meaning.Meaning.{Meaning}
 use Rattle.occ_scope.specs.declared.meaning.Meaning.TheVariants as m
 use Rattle.occ_scope.specs.declared.scope.Scope.{Scope}
-use Rattle.occ_typing_operands.specs.Settling.{fault_of, known}
 use Rattle.occ_typing_operands.specs.Wanting.{wanted}
 use Rattle.occ_typing_operands.specs.declared.kind.Kind.{Kind}
 use Rattle.occ_typing_operands.specs.declared.kind.Kind.TheVariants as k
@@ -27,14 +25,13 @@ use Rattle.occ_typing_operands.specs.declared.kind.Known.{Known}
 use Rattle.occ_typing_tables.specs.Terms.{Judged, judged, judged_all}
 use Rattle.occ_typing_tables.specs.declared.term.Term.TheVariants as v
 use Rattle.occ_typing_tables.proofs.Judging.{judged_single}
-use Rattle.occ_typing_rules.specs.Assigning.{assigned, pair, reached as written, value_for}
-use Rattle.occ_expr_operations.specs.Parts.{Said, kind_of_whole, named, named_element, single, terms, whole_element, whole_element_of}
-use Rattle.occ_expr_operations.specs.Views.{element_view, expr_view, operand_view}
-use Rattle.occ_expr_operations.proofs.Views.{element_named_reported, element_named_whole, expr_alone_said, operand_element_whole}
+use Rattle.occ_typing_rules.specs.Assigning.{assigned, reached as written, value_for}
+use Rattle.occ_expr_operations.specs.Parts.{Said, kind_of_whole, named_element, terms, whole_element}
+use Rattle.occ_expr_operations.proofs.Views.{element_named_reported}
 use Rattle.occ_expr.specs.Targets.{reached, root, target_of}
 use Rattle.occ_expr.proofs.Roots.{root_named}
 use Rattle.occ_typing_statements.specs.Statements.{said}
-use Rattle.occ_typing_statements.proofs.Fitting.{fits_itself}
+use Rattle.occ_expr.proofs.Alone.{IsOf, said_alone, value_kind, wanted_itself}
 
 -- ---- a target
 
@@ -67,50 +64,16 @@ target_type s name x is =
     (ap (λ (n : List ℕ). (reached (visible s n) (kind_of_whole (element name (visible s name)).found)).kind) (sym (root_named name []))
     ∙ ap (λ y. (reached (visible s (root (elements.Named name []))) y.kind).kind) (sym (element_named_reported name [] s)) ∙ is)
 
--- ---- a value
-
-pub record IsOf (of : OccType) (kind : Kind) : Type 0 where
-  pub value : Option Value
-  pub is : kind ≡ known of value
-
-found_kind : (s : Scope) (name : List ℕ) (meaning : Option Meaning) (of : OccType) → visible s name ≡ meaning → type_of meaning ≡ Some of → IsOf of (whole_element_of s name [] meaning).kind
-unfolding named_element
-found_kind s name None of here is = absurd cc
-found_kind s name (Some m.Faulty) of here is = absurd cc
-found_kind s name (Some (m.Type t)) of here is = absurd cc
-found_kind s name (Some (m.Protocol p)) of here is = absurd cc
-found_kind s name (Some (m.Procedure formals)) of here is = absurd cc
-found_kind s name (Some (m.Function formals results)) of here is = absurd cc
-found_kind s name (Some (m.Element whole)) of here is = record {
-  value = whole.value;
-  is = ap (λ (x : Option Meaning). kind_of_whole (element name x).found) here ∙ ap (λ (o : Option OccType). known_or o whole.value) is;
-} where
-  known_or : Option OccType → Option Value → Kind
-  known_or None value = k.Faulty
-  known_or (Some t) value = known t value
-
-pub value_kind : (s : Scope) (name : List ℕ) (of : OccType) → type_of (visible s name) ≡ Some of → IsOf of (whole_element s name []).kind
-unfolding whole_element
-value_kind s name of is = found_kind s name (visible s name) of refl is
-
-pub said_alone : (s : Scope) (name : List ℕ) → (expr_view (exprs.Alone (operands.Element (elements.Named name [])))).said s ≡ single (whole_element s name [])
-said_alone s name =
-    expr_alone_said (operands.Element (elements.Named name [])) s ∙ operand_element_whole (elements.Named name []) s
-    ∙ ap single (element_named_whole name [] s)
-
 -- ---- the value for the target
 
-pub wanted_itself : (of : OccType) (value : Option Value) → (wanted of (known of value)).faults ≡ []
-wanted_itself of value = ap (λ (b : Bool). (if b then record { faults = []; kind = known of value } else fault_of code.T2).faults) (fits_itself of)
-
-value_fits : (of : OccType) (kind : Kind) → is_data of ≡ true → IsOf of kind → value_for of (judged (v.Single kind)) ≡ []
+pub value_fits : (of : OccType) (kind : Kind) → is_data of ≡ true → IsOf of kind → value_for of (judged (v.Single kind)) ≡ []
 value_fits of kind holds is =
     ap (λ (b : Bool). if b then ((judged (v.Single kind)).under of).faults else nameless code.T2 ∷ []) holds
     ∙ ap (λ (x : Judged). (x.under of).faults) (judged_single kind)
     ∙ ap (λ (x : Kind). (wanted of x).faults) is.is
     ∙ wanted_itself of is.value
 
-alone : (xs ys : List Fault) → xs ≡ [] → ys ≡ [] → xs ++ ys ≡ []
+pub alone : (xs ys : List Fault) → xs ≡ [] → ys ≡ [] → xs ++ ys ≡ []
 alone xs ys e f = ap (λ (zs : List Fault). zs ++ ys) e ∙ f
 
 pub value_of_one_type : (s : Scope) (target : Element) (name : List ℕ) (value : Expr) (other : List ℕ) (kind : Kind) (x : Known)

@@ -1,5 +1,5 @@
 -- A formal takes a name alone of its type: nothing is reported of it.
-use Rattle.std.proofs.Common.{◌≡◌, ◌∙◌, ◌||◌, ◌&&◌, ℕ, Bool, true, false, List, [], ◌∷◌, Option, Some, None, if◌then◌else◌, refl, ap, sym}
+use Rattle.std.proofs.Common.{◌≡◌, ◌∙◌, ◌||◌, ◌&&◌, ℕ, Bool, true, false, List, [], Some, if◌then◌else◌, refl, ap, sym}
 use Rattle.occ_base.specs.declared.code.Code.TheVariants as code
 use Rattle.occ_types.specs.Fits.{fits}
 use Rattle.occ_types.specs.View.{as_channel}
@@ -23,8 +23,9 @@ use Rattle.occ_expr_operations.specs.Parts.{Said, whole_element}
 use Rattle.occ_expr_operations.specs.Views.{expr_view}
 use Rattle.occ_expr.specs.Targets.{target_of}
 use Rattle.occ_typing_statements.specs.Actuals.{any_carried, is_carried, taken, takes}
-use Rattle.occ_typing_statements.proofs.Fitting.{fits_itself}
-use Rattle.occ_typing_statements.proofs.Named.{IsOf, said_alone, target_type, value_kind, wanted_itself}
+use Rattle.occ_expr.proofs.Alone.{IsOf, said_alone, value_kind, wanted_itself}
+use Rattle.occ_expr.proofs.Fitting.{fits_itself}
+use Rattle.occ_typing_statements.proofs.Named.{target_type}
 
 or_true : (a b : Bool) → b ≡ true → (a || b) ≡ true
 or_true true b e = refl

@@ -10,10 +10,9 @@ ghost use Rattle.occ_typing_tables.specs.Terms.{alone as spec_alone, judged};
 ghost use Rattle.occ_typing_rules.specs.Placing.{placed as spec_placed};
 ghost use Rattle.occ_typing_statements.specs.Actuals.{actual_faults, actual_tree, actuals_faults, actuals_tree, another_number as spec_another_number, each_faults, each_tree, element_faults, element_in as spec_element_in, misplaced_value as spec_misplaced_value, no_element, one_actual, reference_faults, reference_tree, taken as spec_taken, value_by, value_of, variable_of, with_actuals};
 
-use super::statement::{name_alone, name_of};
-use super::takes::{element_in, takes, takes_long};
+use super::takes::{element_in, takes};
 use occ_base::{Code, Fault, Items, Name, Shared, report};
-use occ_expr::{each_one, expression, target_of};
+use occ_expr::{each_one, expression, name_alone, name_of, takes_long, target_of};
 use occ_expr_operations::Reading;
 use occ_forms_expressions::{Element, Expr};
 use occ_scope::Scope;

@@ -67,6 +67,7 @@ fn with_callee(
 }
 
 /// A call where a process stands.
+#[tactic(auto, using(occ_expr_operations::proofs::Referring::seen, crate::proofs::Unseen::unseen))]
 fn call(
     alloc: Global,
     name: &Name,
@@ -78,11 +79,15 @@ fn call(
     ensures scope { OnOk result (scope.new ≡ scope.old) }
     ensures faults { OnOk result (faults.new ≡ faults.old ++ call_faults scope.old name.now exprs.now (visible scope.old name.now)) }
 {
-    match scope.find(name) {
-        Some(Meaning::Procedure(formals)) => {
-            let formals = formals.share()?;
+    let callee = scope.referent(name)?;
+    let Some(found) = &callee else {
+        no_instance(alloc, name, exprs, scope, faults)?;
+        return Ok(None);
+    };
+    match found.meaning.get() {
+        Meaning::Procedure(formals) => {
             let actuals = actuals(alloc, name, formals.get().as_slice(), exprs, scope, faults)?;
-            Ok(with_callee(scope.referent(name)?, actuals))
+            Ok(with_callee(callee, actuals))
         }
         _ => {
             no_instance(alloc, name, exprs, scope, faults)?;

@@ -3,6 +3,7 @@
 #![tactic(auto)]
 
 mod actual;
+mod calls;
 pub mod exchange_rows;
 mod exchange_tree;
 mod few;

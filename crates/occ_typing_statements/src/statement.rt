@@ -8,7 +8,7 @@ ghost use Rattle.occ_forms_expressions.specs.declared.tree.Operand.TheVariants a
 ghost use Rattle.occ_types.specs.Fits.{is_data};
 ghost use Rattle.occ_typing_rules.specs.Assigning.{assigned as values_reported};
 ghost use Rattle.occ_expr_operations.specs.Parts.{own_faults, terms as spec_terms};
-ghost use Rattle.occ_expr_operations.specs.Sides.{one_call as spec_one_call};
+ghost use Rattle.occ_expr_operations.specs.Sides.{one_call as spec_one_call, side as spec_side};
 ghost use Rattle.occ_expr.specs.Trees.{int_tree as spec_int_tree};
 ghost use Rattle.occ_typing_operands.specs.Settling.{int as spec_int};
 ghost use Rattle.occ_typing_tables.specs.Terms.{judged, judged_all};
@@ -19,12 +19,13 @@ ghost use Rattle.occ_types.specs.declared.value.Primitive.TheVariants as p;
 ghost use Rattle.occ_typing_statements.specs.StatementTrees.{assigned as spec_assigned, assignment_tree as spec_assignment_tree, condition_tree as spec_condition_tree, one_element, open_exprs as spec_opens, options_placed as spec_options_placed, options_trees as spec_options_trees, results_trees as spec_results_trees, types_of as spec_types_of, with_elements};
 ghost use Rattle.occ_typing_statements.specs.Statements.{assignment as spec_assignment, condition as reported_condition, hidden_results as spec_hidden_results, is_any_faulty, options as spec_options, options_under as spec_options_under, results as spec_results, said, selector as reported_selector};
 
+use super::calls::{compare_calls, is_one_known, result_place};
 use super::few::Few;
 use super::target::all_targets;
-use occ_base::{Fault, Items, Name, Shared};
-use occ_expr::{expression, side, target_of};
+use occ_base::{Fault, Items, Shared, one_item};
+use occ_expr::{expression, name_alone, name_of, side, target_of};
 use occ_expr_operations::{Reading, Readings, one_call};
-use occ_forms_expressions::{Element, Expr, Operand};
+use occ_forms_expressions::{Element, Expr};
 use occ_scope::Scope;
 use occ_types::{OccType, Primitive, is_data as data};
 use occ_typing_operands::{Kind, int};
@@ -154,34 +155,6 @@ fn single_tree(
     }))
 }
 
-/// The name that an element is, without subscripts.
-pub(super) fn name_of(element: &Element) -> Option<&Name>
-    ensures { IfSome result (λ name. element.now ≡ elements.Named name.now []) }
-{
-    match element {
-        Element::Named(name, exprs) => {
-            if exprs.is_empty() {
-                return Some(name);
-            }
-            None
-        }
-        Element::Segment(_, _, _) => None,
-    }
-}
-
-/// The name that an expression is, without subscripts.
-pub(super) fn name_alone(expr: &Expr) -> Option<&Name>
-    ensures { IfSome result (λ name. expr.now ≡ exprs.Alone (operands.Element (elements.Named name.now []))) }
-{
-    let Expr::Alone(operand) = expr else {
-        return None;
-    };
-    match operand {
-        Operand::Element(element) => name_of(element),
-        _ => None,
-    }
-}
-
 /// Whether a type is data that may have many parts, so that it takes long to compare it.
 fn may_be_wide(of: &OccType) -> bool
     ensures { IsTrue result → is_data of.now ≡ true }
@@ -213,6 +186,36 @@ fn fits_by_name(
     Ok(fits)
 }
 
+/// Whether what a call gives, of which this is read, is known to be of the type of its one target: nothing is reported of
+/// it then.
+fn is_given(
+    target: &Element,
+    kind: &Kind,
+    value: &Expr,
+    terms: &[Term],
+    scope: &mut Scope,
+) -> Result<bool, AllocError>
+    requires kind { kind.now ≡ (spec_target_of scope.old target.now).kind }
+    requires terms { terms.now ≡ (spec_side scope.old (value.now ∷ [])).terms }
+    ensures given { IfOk result (λ given. IsTrue given → values_reported (kind.now ∷ []) (judged_all terms.now) ≡ []) }
+    ensures scope { scope.new ≡ scope.old }
+{
+    let Kind::Known(known) = kind else {
+        return Ok(false);
+    };
+    if !is_one_known(terms) || !may_be_wide(known.of.get()) {
+        return Ok(false);
+    }
+    let (Some(name), Some((callee, _))) = (name_of(target), one_call(value, &[])) else {
+        return Ok(false);
+    };
+    let Some(place) = result_place(callee, scope) else {
+        return Ok(false);
+    };
+    let given = scope.takes(callee, place, name)?;
+    Ok(given)
+}
+
 /// `el := e`, where the expression is no call by itself. Most assignments are so, and nothing is listed for them but what
 /// their tree has.
 #[tactic(auto, using(crate::proofs::Elements::front_rules), unfolding(occ_expr_operations::specs::Sides::side))]
@@ -241,6 +244,68 @@ fn single_assignment(
     single_tree(alloc, read.tree, open_expr)
 }
 
+/// What a call gives, of which this is read, for its one target.
+fn assign_call(
+    alloc: Global,
+    target: &Element,
+    kind: &Kind,
+    value: &Expr,
+    terms: &[Term],
+    scope: &mut Scope,
+    faults: &mut Items<Fault>,
+) -> Result<(), AllocError>
+    requires kind { kind.now ≡ (spec_target_of scope.old target.now).kind }
+    requires terms { terms.now ≡ (spec_side scope.old (value.now ∷ [])).terms }
+    ensures scope { OnOk result (scope.new ≡ scope.old) }
+    ensures faults { OnOk result (faults.new ≡ faults.old ++ values_reported (kind.now ∷ []) (judged_all terms.now)) }
+{
+    if is_given(target, kind, value, terms, scope)? {
+        return Ok(());
+    }
+    assigned(alloc, slice::from_ref(kind), terms, faults)
+}
+
+/// The trees of the one target of an assignment, if it has no fault.
+fn one_target(
+    alloc: Global,
+    tree: Option<TypedElement>,
+) -> Result<Option<Items<TypedElement>>, AllocError>
+    ensures { IfOk result (λ trees. trees ≡ with_elements (one_element tree) (Some [])) }
+{
+    match tree {
+        Some(tree) => Ok(Some(one_item(alloc, tree)?)),
+        None => Ok(None),
+    }
+}
+
+/// `el := f (e, ..)`: what is given to the function and what it gives are compared with wide types once.
+fn call_assignment(
+    alloc: Global,
+    target: &Element,
+    value: &Expr,
+    scope: &mut Scope,
+    faults: &mut Items<Fault>,
+) -> Result<Option<TypedAssignment>, AllocError>
+    ensures tree { IfOk result (λ tree. tree ≡ spec_assignment_tree scope.old (target.now ∷ []) (value.now ∷ [])) }
+    ensures scope { OnOk result (scope.new ≡ scope.old) }
+    ensures faults { OnOk result (faults.new ≡ faults.old ++ spec_assignment scope.old (target.now ∷ []) (value.now ∷ [])) }
+{
+    compare_calls(value, scope)?;
+    let read = target_of(alloc, target, scope, faults)?;
+    let values = side(alloc, value, &[], scope, faults)?;
+    assign_call(
+        alloc,
+        target,
+        &read.kind,
+        value,
+        values.terms.as_slice(),
+        scope,
+        faults,
+    )?;
+    let targets = one_target(alloc, read.tree)?;
+    assignment_tree(alloc, targets, values.open_exprs.as_slice())
+}
+
 /// `el, .. := e, ..`: the targets, the values, and each value for its target.
 pub fn assignment(
     alloc: Global,
@@ -255,11 +320,11 @@ pub fn assignment(
     ensures scope { OnOk result (scope.new ≡ scope.old) }
     ensures faults { OnOk result (faults.new ≡ faults.old ++ spec_assignment scope.old (first_target.now ∷ more_targets.now) (first_value.now ∷ more_values.now)) }
 {
-    if more_targets.is_empty()
-        && more_values.is_empty()
-        && one_call(first_value, more_values).is_none()
-    {
-        return single_assignment(alloc, first_target, first_value, scope, faults);
+    if more_targets.is_empty() && more_values.is_empty() {
+        return match one_call(first_value, more_values) {
+            None => single_assignment(alloc, first_target, first_value, scope, faults),
+            Some(_) => call_assignment(alloc, first_target, first_value, scope, faults),
+        };
     }
     let targets = all_targets(alloc, first_target, more_targets, scope, faults)?;
     let values = side(alloc, first_value, more_values, scope, faults)?;

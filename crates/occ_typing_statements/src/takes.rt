@@ -108,16 +108,6 @@ fn is_any_channel(of: &OccType) -> bool
     }
 }
 
-/// Whether a type may have many parts, so that it takes long to compare it.
-pub fn takes_long(of: &OccType) -> bool {
-    match of {
-        OccType::Array(_, inner) | OccType::Named(_, inner) => takes_long(inner.get()),
-        OccType::Channel(carried) => !matches!(carried.get(), Protocol::Any),
-        OccType::Record(_, _) => true,
-        OccType::Primitive(_) | OccType::Timer | OccType::Unknown => false,
-    }
-}
-
 /// Whether a formal of the first type takes what is of the other: one that is just CHAN OF ANY takes every channel.
 #[tactic(auto, unfolding(crate::specs::Actuals::takes))]
 pub fn takes(of: &OccType, from: &OccType) -> bool

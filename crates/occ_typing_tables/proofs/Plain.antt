@@ -1,5 +1,5 @@
 -- A table of items that are of one primitive type and faultless is of so many.
-use Rattle.std.proofs.Common.{◌≡◌, ◌≢◌, ◌∙◌, ◌+◌, ℕ, suc, Bool, true, false, List, [], ◌∷◌, ◌++◌, length, map, Option, Some, None, refl, ap, sym, subst}
+use Rattle.std.proofs.Common.{◌≡◌, ◌≢◌, ◌∙◌, ℕ, suc, Bool, true, false, List, [], ◌∷◌, ◌++◌, length, map, Option, Some, None, refl, ap, sym, subst}
 use Rattle.std.specs.Prelude.{if◌then◌else◌}
 use Rattle.std.specs.List.{list_any}
 use Rattle.occ_base.specs.declared.code.Code.TheVariants as code
@@ -22,7 +22,7 @@ use Rattle.occ_typing_operands.specs.declared.kind.TypedValue.TheVariants as o
 use Rattle.occ_typing_operands.specs.declared.kind.Untyped.{Untyped}
 use Rattle.occ_typing_tables.proofs.Filling.{filled_itself}
 use Rattle.occ_typing_tables.specs.Merging.{filled, merged}
-use Rattle.occ_typing_tables.specs.Terms.{Judged, all_under, each_own_or_alone, first_type, fitted_to, is_faulty_settled, items_type, joined, merged_all, settled_itself, settled_so, settled_under, so_many, table_type, unless_faulty}
+use Rattle.occ_typing_tables.specs.Terms.{Judged, all_under, each_own_or_alone, first_type, fitted_to, has_fault, is_faulty_settled, items_type, joined, merged_all, settled_itself, settled_so, settled_under, so_many, table_type, unless_faulty}
 use Rattle.occ_typing_tables.specs.declared.table.Settled.{Settled}
 use Rattle.occ_typing_tables.specs.inside.Plain.{ArePlain, IsCounted, IsPlain, is_landed, value_in}
 
@@ -145,7 +145,7 @@ joined_items of xs m d =
 under_is : (from_outside : Bool) (of : OccType) (xs : List Judged) → fits of of ≡ true → merged of of ≡ Some of → is_data of ≡ true → ArePlain of xs → all_under from_outside of xs ≡ so_many (length xs) of
 under_is from_outside of xs f m d h =
     let ys : List Settled = map (settled_under of) xs in
-    ap (λ (b : Bool). joined of (if b then each_own_or_alone from_outside ys xs else map (fitted_to of) ys)) (none_is_faulty of xs h)
+    ap (λ (b : Bool). joined of (if b then each_own_or_alone from_outside (list_any has_fault xs) ys xs else map (fitted_to of) ys)) (none_is_faulty of xs h)
     ∙ ap (joined of) (each_fits of xs f h)
     ∙ joined_items of xs m d
 

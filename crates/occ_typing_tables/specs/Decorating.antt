@@ -8,8 +8,7 @@ use Rattle.occ_types.specs.declared.types.OccType.{OccType}
 use Rattle.occ_types.specs.declared.value.Value.{Value}
 use Rattle.occ_typing_operands.specs.Operators.{kinds}
 use Rattle.occ_typing_operands.specs.Parts.{mismatched}
-use Rattle.occ_typing_operands.specs.Settling.{Finding, fault_of, known, silent}
-use Rattle.occ_typing_operands.specs.declared.kind.Kind.{Kind}
+use Rattle.occ_typing_operands.specs.Settling.{Finding, fault_of, known}
 use Rattle.occ_typing_operands.specs.declared.kind.Kind.TheVariants as k
 use Rattle.occ_typing_tables.specs.Terms.{Judged, alone, and_then, each_under, table_alone, with_items}
 

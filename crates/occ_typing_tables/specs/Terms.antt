@@ -144,23 +144,27 @@ hidden_faults xs = all_faults (map hidden xs)
 abbrev pub fitted_to : OccType → Settled → Finding
 fitted_to of y = and_then (reported_of y) (fitted of)
 
--- whether an item stands as it was settled, beside a faulty one. A type that is wanted of the table from outside stands for
--- what is free. The type of another item does not, but for an item that has its fault by that type alone
-abbrev pub stands : Bool → Settled → Judged → Bool
-stands true y x = y.is_faulty || x.is_untyped
-stands false y x = y.is_faulty && not x.is_faulty
+abbrev pub has_fault : Judged → Bool
+has_fault x = x.is_faulty
+
+-- Whether an item stands as it was settled, beside a faulty one. A type that is wanted of the table from outside stands for
+-- what is free. The type of another item stands only where no item has a fault of its own, for what has one by that type.
+abbrev pub stands : Bool → Bool → Settled → Judged → Bool
+stands true has_own y x = y.is_faulty || x.is_untyped
+stands false has_own y x = y.is_faulty && not has_own
 
 -- else it is judged alone: beside a faulty item nothing more is wanted of it
-abbrev pub own_or_alone : Bool → Settled → Judged → Finding
-own_or_alone from_outside y x = if stands from_outside y x then record { faults = y.faults; kind = k.Faulty } else x.alone
+abbrev pub own_or_alone : Bool → Bool → Settled → Judged → Finding
+own_or_alone from_outside has_own y x = if stands from_outside has_own y x then record { faults = y.faults; kind = k.Faulty } else x.alone
 
-abbrev pub each_own_or_alone : Bool → List Settled → List Judged → List Finding
-each_own_or_alone from_outside ys [] = []
-each_own_or_alone from_outside [] (x ∷ xs) = []
-each_own_or_alone from_outside (y ∷ ys) (x ∷ xs) = own_or_alone from_outside y x ∷ each_own_or_alone from_outside ys xs
+abbrev pub each_own_or_alone : Bool → Bool → List Settled → List Judged → List Finding
+each_own_or_alone from_outside has_own ys [] = []
+each_own_or_alone from_outside has_own [] (x ∷ xs) = []
+each_own_or_alone from_outside has_own (y ∷ ys) (x ∷ xs) = own_or_alone from_outside has_own y x ∷ each_own_or_alone from_outside has_own ys xs
 
 abbrev pub fitted_or_alone : Bool → OccType → List Settled → List Judged → List Finding
-fitted_or_alone from_outside of ys xs = if list_any is_faulty_settled ys then each_own_or_alone from_outside ys xs else map (fitted_to of) ys
+fitted_or_alone from_outside of ys xs =
+    if list_any is_faulty_settled ys then each_own_or_alone from_outside (list_any has_fault xs) ys xs else map (fitted_to of) ys
 
 -- items, of each of which the type is wanted, as far as none is faulty: from outside, or by one of them
 abbrev pub each_under : Bool → OccType → List Judged → List Finding
@@ -206,9 +210,6 @@ table_settled xs of = table_of xs (as_array of)
 
 abbrev pub table_under : List Judged → OccType → Finding
 table_under xs of = fitted_to of (table_settled xs of)
-
-abbrev pub has_fault : Judged → Bool
-has_fault x = x.is_faulty
 
 -- no type is wanted of a table beside other operands; one with a fault hides what is
 abbrev pub table_beside : List Judged → Bool → Finding

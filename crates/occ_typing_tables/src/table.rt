@@ -11,7 +11,7 @@ ghost use Rattle.occ_typing_tables.specs.Terms.{after_first as spec_after_first,
 use super::counted::is_counted;
 use super::extent::arrayed;
 use super::merge::merged;
-use super::placing::has_fault;
+use super::placing::any_has_fault;
 use super::term::Term;
 use occ_base::{Code, Fault, Items, Name, Shared, report};
 use occ_types::{OccType, array_of, is_data};
@@ -312,14 +312,14 @@ fn each_settled(
 }
 
 /// Whether an operand stands as it was settled, beside a faulty one. What is free does where the type was wanted from
-/// outside; else what has its fault by that type alone.
-fn stands(from_outside: bool, settled: &Settled, term: &Term) -> bool
-    ensures { result ≡ spec_stands from_outside settled.now (judged term.now) }
+/// outside. Else what has its fault by that type does, where none has a fault of its own.
+fn stands(from_outside: bool, has_own: bool, settled: &Settled, term: &Term) -> bool
+    ensures { result ≡ spec_stands from_outside has_own settled.now (judged term.now) }
 {
     if from_outside {
         return settled.is_faulty || is_untyped(term);
     }
-    settled.is_faulty && !has_fault(term)
+    settled.is_faulty && !has_own
 }
 
 /// An operand beside a faulty one, which was settled so.
@@ -327,14 +327,15 @@ fn stands(from_outside: bool, settled: &Settled, term: &Term) -> bool
 fn own_or_alone(
     alloc: Global,
     from_outside: bool,
+    has_own: bool,
     settled: &Settled,
     term: &Term,
     faults: &mut Items<Fault>,
 ) -> Result<Kind, AllocError>
-    ensures kind { IfOk result (λ kind. kind ≡ (spec_own_or_alone from_outside settled.now (judged term.now)).kind) }
-    ensures faults { OnOk result (faults.new ≡ faults.old ++ (spec_own_or_alone from_outside settled.now (judged term.now)).faults) }
+    ensures kind { IfOk result (λ kind. kind ≡ (spec_own_or_alone from_outside has_own settled.now (judged term.now)).kind) }
+    ensures faults { OnOk result (faults.new ≡ faults.old ++ (spec_own_or_alone from_outside has_own settled.now (judged term.now)).faults) }
 {
-    if stands(from_outside, settled, term) {
+    if stands(from_outside, has_own, settled, term) {
         report_again(alloc, settled.faults.as_slice(), faults)?;
         Ok(Kind::Faulty)
     } else {
@@ -342,17 +343,18 @@ fn own_or_alone(
     }
 }
 
-/// Operands, of which one is faulty: its own fault, and the others alone.
+/// Operands, of which one is faulty, and perhaps one by itself: its own fault, and the others alone.
 #[cycle(judge)]
 fn each_own_or_alone(
     alloc: Global,
     from_outside: bool,
+    has_own: bool,
     settled: &[Settled],
     terms: &[Term],
     faults: &mut Items<Fault>,
 ) -> Result<Items<Kind>, AllocError>
-    ensures kinds { IfOk result (λ kinds. kinds ≡ spec_kinds (spec_each_own_or_alone from_outside settled.now (judged_all terms.now))) }
-    ensures faults { OnOk result (faults.new ≡ faults.old ++ all_faults (spec_each_own_or_alone from_outside settled.now (judged_all terms.now))) }
+    ensures kinds { IfOk result (λ kinds. kinds ≡ spec_kinds (spec_each_own_or_alone from_outside has_own settled.now (judged_all terms.now))) }
+    ensures faults { OnOk result (faults.new ≡ faults.old ++ all_faults (spec_each_own_or_alone from_outside has_own settled.now (judged_all terms.now))) }
 {
     let mut kinds = Items::new(alloc);
     let mut settled = settled;
@@ -360,7 +362,7 @@ fn each_own_or_alone(
         let Some((one, rest)) = settled.split_first() else {
             return Ok(kinds);
         };
-        let kind = own_or_alone(alloc, from_outside, one, term, faults)?;
+        let kind = own_or_alone(alloc, from_outside, has_own, one, term, faults)?;
         kinds.push(kind)?;
         settled = rest;
     }
@@ -381,7 +383,8 @@ fn fitted_or_alone(
     ensures faults { OnOk result (faults.new ≡ faults.old ++ all_faults (spec_fitted_or_alone from_outside of.now settled.now (judged_all terms.now))) }
 {
     if any_settled_faulty(settled) {
-        return each_own_or_alone(alloc, from_outside, settled, terms, faults);
+        let has_own = any_has_fault(terms);
+        return each_own_or_alone(alloc, from_outside, has_own, settled, terms, faults);
     }
     each_fitted(alloc, settled, of, faults)
 }

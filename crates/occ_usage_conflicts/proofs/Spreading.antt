@@ -11,8 +11,9 @@ use Rattle.occ_types.specs.declared.interface.PartSelector.{PartSelector}
 use Rattle.occ_types.specs.declared.interface.PartSelector.TheVariants as s
 use Rattle.occ_types.specs.declared.interface.Places.{Places}
 use Rattle.occ_types.specs.declared.interface.Places.TheVariants as places
-use Rattle.occ_usage_conflicts.specs.inside.Numbering.{number_of_bytes}
-use Rattle.occ_usage_conflicts.specs.inside.Spreading.{IsSpread, all_in, list_at, list_of, list_of_places, meets_at, meets_in}
+use Rattle.occ_base.specs.Mixing.{number_of_bytes}
+use Rattle.occ_usage_conflicts.specs.inside.Beginning.{list_at, list_of, list_of_places}
+use Rattle.occ_usage_conflicts.specs.inside.Spreading.{IsSpread, all_in, meets_at, meets_in}
 
 abbrev pub Parts : Type 0
 Parts = List (List PartSelector)
@@ -56,7 +57,7 @@ first_true false true c d e = refl
 first_true false false true d e = refl
 first_true false false false d e = absurd (grind (arith, e))
 
-apart : (p q : List PartSelector) (n i j : ℕ) → list_of p n ≡ Some i → list_of q n ≡ Some j → j ≢ i → are_apart p q ≡ true
+pub apart : (p q : List PartSelector) (n i j : ℕ) → list_of p n ≡ Some i → list_of q n ≡ Some j → j ≢ i → are_apart p q ≡ true
 apart [] q n i j a b d = absurd (grind (arith, a))
 apart (s.Field l ∷ xs) [] n i j a b d = absurd (grind (arith, b))
 apart (s.Field l ∷ xs) (s.Field m ∷ ys) n i j a b d =

@@ -1,6 +1,5 @@
 -- Where uses stand, and roots that have none.
-use Rattle.std.proofs.Common.{◌≡◌, ◌≢◌, ◌⊎◌, ◌∙◌, ◌≤◌, ◌<◌, ◌++◌, ℕ, zero, suc, Bool, true, false, List, [], ◌∷◌, Some, length, slice_get, slice_set, ap, sym, refl, arith, inl, inr, subst}
-use Rattle.occ_base.specs.declared.diag.Diag.{Diag}
+use Rattle.std.proofs.Common.{◌≡◌, ◌≢◌, ◌∙◌, ◌≤◌, ◌<◌, ℕ, zero, suc, Bool, true, false, List, [], ◌∷◌, Some, slice_get, slice_set, ap, sym, refl, arith, inl, inr, subst}
 use Rattle.occ_usage_values.specs.declared.bound.Bound.{Bound}
 use Rattle.occ_usage_values.specs.declared.uses.Use.{Use}
 use Rattle.occ_project.specs.declared.expanded.Location.{Location}

@@ -1,4 +1,5 @@
 pub mod Accumulating
+pub mod Beginning
 pub mod Numbering
 pub mod Linking
 pub mod Spreading

@@ -1,13 +1,14 @@
 //! The parts of one root that earlier components use. Few ways of beginning are in one list, many in 256, by the field or the
 //! index that they select first, so that unlike parts cost no pairs.
-ghost use Rattle.std.specs.Prelude.{◌≡◌, ◌<◌, ◌||◌, [], IfOk, IfSome, List, OnOk, Some, false, length, not};
+ghost use Rattle.std.specs.Prelude.{◌≡◌, ◌<◌, ◌||◌, [], IfOk, List, OnOk, Some, false, length, not};
 ghost use Rattle.occ_usage_parts.specs.Keeping.{meets_some};
 ghost use Rattle.occ_usage_parts.specs.Parts.{are_apart as spec_are_apart};
 ghost use Rattle.occ_types.specs.declared.interface.PartSelector.{PartSelector as ASelector};
-ghost use Rattle.occ_usage_conflicts.specs.inside.Spreading.{IsSpread, list_at as spec_list_at, list_of as spec_list_of, list_of_places as spec_list_of_places, meets_at as spec_meets_at, meets_in};
+ghost use Rattle.occ_usage_conflicts.specs.inside.Beginning.{list_of as spec_list_of};
+ghost use Rattle.occ_usage_conflicts.specs.inside.Spreading.{IsSpread, meets_at as spec_meets_at, meets_in};
 
-use super::numbering::of_bytes;
-use occ_types::{PartSelector, Places};
+use super::beginning::list_of;
+use occ_types::PartSelector;
 use occ_usage_parts::Paths;
 use std::alloc::{AllocError, Global};
 use std::marker::Model;
@@ -104,39 +105,6 @@ fn no_lists(alloc: Global) -> Result<Vec<Paths>, AllocError>
         lists.push(Paths::none(alloc))?;
     }
     Ok(lists)
-}
-
-/// Which of so many lists is that of a number, if there are any.
-fn list_at(number: u64, count: usize) -> Option<usize>
-    ensures list { result ≡ spec_list_at number count }
-    ensures within { IfSome result (λ at. at < count) }
-{
-    if count == 0 {
-        return None;
-    }
-    Some((number % count as u64) as usize)
-}
-
-/// The list of the parts that begin with a place, if it is one place.
-fn list_of_places(places: Places, count: usize) -> Option<usize>
-    ensures list { result ≡ spec_list_of_places places count }
-    ensures within { IfSome result (λ at. at < count) }
-{
-    match places {
-        Places::Run(first, 0) => list_at(first.unsigned_abs(), count),
-        _ => None,
-    }
-}
-
-/// Which of so many lists has the parts that begin with the field or the place with which a part begins.
-fn list_of(part: &[PartSelector], count: usize) -> Option<usize>
-    ensures list { result ≡ spec_list_of part.now count }
-    ensures within { IfSome result (λ at. at < count) }
-{
-    match part.first()? {
-        PartSelector::Field(name) => list_at(of_bytes(name.as_bytes()), count),
-        PartSelector::Interval(interval) => list_of_places(interval.places, count),
-    }
 }
 
 /// Whether a part of one of the lists has an element in common with a part.

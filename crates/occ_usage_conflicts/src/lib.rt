@@ -4,6 +4,7 @@
 
 mod accumulate;
 mod accumulated;
+mod beginning;
 mod body;
 mod each_once;
 mod joining;
@@ -16,9 +17,10 @@ pub mod rows;
 mod rule;
 mod same;
 
+pub use beginning::list_of;
 pub use body::{body_uses, outside_uses};
 pub use each_once::distinct;
 pub use joining::{append, append_joined};
 pub use pairs::target_faults;
 pub use reporting::{component_faults, parted_faults, twice_faults};
-pub use rule::root_name;
+pub use rule::{name_of_root, root_name};

@@ -1,26 +1,16 @@
 //! The bucket of a use, by root, line and indices. Nothing is promised of it but that it is made of the use.
 ghost use Rattle.std.specs.Prelude.{◌≡◌, ◌<◌};
-ghost use Rattle.occ_usage_conflicts.specs.inside.Numbering.{bucket_of as spec_bucket_of, mixed as spec_mixed, number_of as spec_number_of, number_of_bytes, number_of_places, number_of_selector, with_selectors as spec_with_selectors};
+ghost use Rattle.occ_usage_conflicts.specs.inside.Numbering.{bucket_of as spec_bucket_of, number_of as spec_number_of, number_of_places, number_of_run, number_of_selector, with_selectors as spec_with_selectors};
 
 use super::same::Candidate;
+use occ_base::{mixed, number_of_bytes};
 use occ_types::{PartSelector, Places};
 
-/// One number of two.
-fn mixed(seed: u64, more: u64) -> u64
-    ensures { result ≡ spec_mixed seed more }
+/// One number of a run. It is another sum than that of two numbers in a row, so that places which go up as lines go down stay apart.
+fn of_run(first: u64, count: u64) -> u64
+    ensures { result ≡ number_of_run first count }
 {
-    seed.wrapping_add(more).wrapping_mul(0x9E37_79B9_7F4A_7C15)
-}
-
-/// One number of bytes.
-pub(crate) fn of_bytes(bytes: &[u8]) -> u64
-    ensures { result ≡ number_of_bytes 0 bytes.now }
-{
-    let mut number = 0;
-    for byte in bytes {
-        number = mixed(number, u64::from(*byte));
-    }
-    number
+    first.wrapping_add(count.wrapping_mul(0xC2B2_AE3D_27D4_EB4F))
 }
 
 fn of_places(places: Places) -> u64
@@ -30,7 +20,7 @@ fn of_places(places: Places) -> u64
         Places::None => 0,
         Places::All => 1,
         Places::From(first) => first.unsigned_abs(),
-        Places::Run(first, count) => mixed(first.unsigned_abs(), u64::from(count)),
+        Places::Run(first, count) => of_run(first.unsigned_abs(), u64::from(count)),
     }
 }
 
@@ -38,7 +28,7 @@ fn of_selector(selector: &PartSelector) -> u64
     ensures { result ≡ number_of_selector selector.now }
 {
     match selector {
-        PartSelector::Field(name) => of_bytes(name.as_bytes()),
+        PartSelector::Field(name) => number_of_bytes(name.as_bytes()),
         PartSelector::Interval(interval) => of_places(interval.places),
     }
 }

@@ -1,5 +1,6 @@
 //! The three rules U1, U2 and U3: which kinds of use exclude each other, and which overlap counts. `docs/LANGUAGE.md, The
 //! parallel rule`.
+ghost use Rattle.std.specs.Option.{option_copied};
 ghost use Rattle.std.specs.Prelude.{◌≡◌, IfOk};
 ghost use Rattle.occ_usage_conflicts.specs.ParallelRule.{code_of, conflict as spec_conflict, counts as spec_counts, root_name as spec_root_name};
 
@@ -63,11 +64,21 @@ pub(crate) fn counts(least: Least, found: Overlap) -> bool
 }
 
 /// The name of a root, where one stands in scope with this number.
+pub fn name_of_root(env: &[Bound], root: usize) -> Option<&Name>
+    ensures { option_copied result ≡ spec_root_name env.now root }
+{
+    match env.get(root) {
+        Some(Bound::Root(name)) => Some(name),
+        _ => None,
+    }
+}
+
+/// A copy of the name of a root, where one stands in scope with this number.
 pub fn root_name(alloc: Global, env: &[Bound], root: usize) -> Result<Option<Name>, AllocError>
     ensures { IfOk result (λ name. name ≡ spec_root_name env.now root) }
 {
-    match env.get(root) {
-        Some(Bound::Root(name)) => Ok(Some(name.copied(alloc)?)),
-        _ => Ok(None),
+    match name_of_root(env, root) {
+        Some(name) => Ok(Some(name.copied(alloc)?)),
+        None => Ok(None),
     }
 }

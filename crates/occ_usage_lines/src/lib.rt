@@ -6,6 +6,7 @@ mod effect;
 mod entering;
 mod form;
 mod naming;
+mod noting;
 mod scope;
 
 pub use effect::{each_effect, form_effect};

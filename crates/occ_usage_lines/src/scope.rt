@@ -1,5 +1,5 @@
-//! The specifications in scope, outermost first, and by root which of them concern uses. Notes may be too many, never too
-//! few.
+//! The specifications in scope, outermost first, and in lists by parts which of them concern uses. Notes may be too many,
+//! never too few.
 ghost use Rattle.std.specs.List.{list_any};
 ghost use Rattle.std.specs.List.Sorted.{IsStrictlySortedBy};
 ghost use Rattle.std.specs.Ordering.{nat_cmp};
@@ -7,8 +7,9 @@ ghost use Rattle.std.specs.Prelude.{[], length, take, true, IfOk, OnOk, slice_ge
 ghost use Rattle.occ_usage_values.specs.declared.uses.Use.{Use as AUse};
 ghost use Rattle.occ_usage_conflicts.specs.Kinds.{is_write as spec_is_write};
 ghost use Rattle.occ_usage_lines.specs.Concern.{concerned as spec_concerned, concerns as spec_concerns, is_near as spec_is_near, is_some as spec_is_some, some_near as spec_some_near};
-ghost use Rattle.occ_usage_lines.specs.inside.Noting.{AreKept, AreKeptBelow, are_of as spec_are_of, concerns_one as spec_concerns_one, ends_from as spec_ends_from, has_read as spec_has_read, is_chosen, is_found, is_in, is_noted, is_of as spec_is_of, names_root as spec_names_root, noted as spec_noted};
+ghost use Rattle.occ_usage_lines.specs.inside.Noting.{concerns_one as spec_concerns_one, is_asked, is_chosen, is_found, is_in};
 
+use super::noting::{asked, note_bound, strike_bound};
 use occ_base::Items;
 use occ_types::UseKind;
 use occ_usage_parts::{Overlap, Part, SelectedPart, overlap, overlap_selected};
@@ -20,9 +21,9 @@ use std::marker::Model;
 #[derive(Drop)]
 pub struct UsageScope {
     bounds: Items<Bound>,
-    /// For each root the numbers of those that are names for a part of it, and perhaps others.
+    /// The numbers of those that are names for a part, and perhaps others, in the lists of the part.
     named: Vec<Items<usize>>,
-    /// For each root the numbers of those for which a part of it was read, and perhaps others.
+    /// The numbers of those for which a part was read, and perhaps others, in the lists of the part.
     read: Vec<Items<usize>>,
 }
 
@@ -108,13 +109,12 @@ impl UsageScope {
     pub fn concerned(&self, alloc: Global, uses: &[Use]) -> Result<Items<usize>, AllocError>
         ensures { IfOk result (λ numbers. numbers ≡ spec_concerned 0 self.now uses.now) }
     {
-        let mut numbers = found(
-            alloc,
-            self.bounds.as_slice(),
-            self.named.as_slice(),
-            self.read.as_slice(),
-            uses,
-        )?;
+        let named = self.named.as_slice();
+        let read = self.read.as_slice();
+        if named.is_empty() && read.is_empty() {
+            return Ok(Items::new(alloc));
+        }
+        let mut numbers = found(alloc, self.bounds.as_slice(), named, read, uses)?;
         put_in_order(&mut numbers);
         Ok(Items::from_vec(numbers))
     }
@@ -129,175 +129,6 @@ pub fn is_write(kind: UseKind) -> bool
         UseKind::Write => true,
         UseKind::Input => false,
         UseKind::Output => false,
-    }
-}
-
-/// Makes lists, so that there is one for this root.
-fn make_lists(alloc: Global, lists: &mut Vec<Items<usize>>, root: usize) -> Result<(), AllocError>
-    ensures kept { AreKept lists.old.items lists.new.items }
-    ensures room { OnOk result (root < length lists.new.items) }
-{
-    while lists.len() <= root {
-        lists.push(Items::new(alloc))?;
-    }
-    Ok(())
-}
-
-/// Notes a number with a root, for which there is a list.
-fn put(lists: &mut Vec<Items<usize>>, root: usize, number: usize) -> Result<(), AllocError>
-    requires { root < length lists.old.items }
-    ensures kept { AreKept lists.old.items lists.new.items }
-    ensures noted { OnOk result (is_noted lists.new.items root number ≡ true) }
-{
-    lists[root].push(number)
-}
-
-/// Notes a number with a root.
-fn note(
-    alloc: Global,
-    lists: &mut Vec<Items<usize>>,
-    root: usize,
-    number: usize,
-) -> Result<(), AllocError>
-    ensures kept { AreKept lists.old.items lists.new.items }
-    ensures noted { OnOk result (is_noted lists.new.items root number ≡ true) }
-{
-    make_lists(alloc, lists, root)?;
-    put(lists, root, number)
-}
-
-/// Notes a number with the root of a place.
-fn note_place(
-    alloc: Global,
-    lists: &mut Vec<Items<usize>>,
-    place: &Option<SelectedPart>,
-    number: usize,
-) -> Result<(), AllocError>
-    ensures kept { AreKept lists.old.items lists.new.items }
-    ensures noted { OnOk result ((root : ℕ) → spec_is_of root place.now ≡ true → is_noted lists.new.items root number ≡ true) }
-{
-    match place {
-        Some(place) => note(alloc, lists, place.root, number),
-        None => Ok(()),
-    }
-}
-
-/// Notes a number with the roots of uses.
-fn note_uses(
-    alloc: Global,
-    lists: &mut Vec<Items<usize>>,
-    uses: &[Use],
-    number: usize,
-) -> Result<(), AllocError>
-    ensures kept { AreKept lists.old.items lists.new.items }
-    ensures noted { OnOk result ((root : ℕ) → spec_are_of root uses.now ≡ true → is_noted lists.new.items root number ≡ true) }
-{
-    for found in uses {
-        note(alloc, lists, found.part.root, number)?;
-    }
-    Ok(())
-}
-
-/// Notes the number of a specification.
-fn note_bound(
-    alloc: Global,
-    named: &mut Vec<Items<usize>>,
-    read: &mut Vec<Items<usize>>,
-    bound: &Bound,
-    number: usize,
-) -> Result<(), AllocError>
-    ensures named_kept { AreKept named.old.items named.new.items }
-    ensures named { OnOk result ((root : ℕ) → spec_names_root root bound.now ≡ true → is_noted named.new.items root number ≡ true) }
-    ensures read_kept { AreKept read.old.items read.new.items }
-    ensures read { OnOk result ((root : ℕ) → spec_has_read root bound.now ≡ true → is_noted read.new.items root number ≡ true) }
-{
-    match bound {
-        Bound::Abbreviation(place, _, reads) => {
-            note_place(alloc, named, place, number)?;
-            note_uses(alloc, read, reads.as_slice(), number)
-        }
-        Bound::Value(_, _, reads) => note_uses(alloc, read, reads.as_slice(), number),
-        Bound::Root(_) => Ok(()),
-        Bound::Body(_, _) => Ok(()),
-        Bound::Other => Ok(()),
-    }
-}
-
-/// Whether the last of these numbers is not below this one.
-fn ends_from(numbers: &[usize], depth: usize) -> bool
-    ensures { result ≡ spec_ends_from numbers.now depth }
-{
-    match numbers.last() {
-        Some(last) => *last >= depth,
-        None => false,
-    }
-}
-
-/// Strikes the last of these numbers that are not below this one.
-fn strike_last(numbers: &mut Items<usize>, depth: usize)
-    ensures { (n : ℕ) → n < depth → is_in numbers.old n ≡ true → is_in numbers.new n ≡ true }
-{
-    while ends_from(numbers.as_slice(), depth) {
-        numbers.pop();
-    }
-}
-
-/// Strikes numbers that are noted with a root and not below this one.
-fn strike(lists: &mut Vec<Items<usize>>, root: usize, depth: usize)
-    ensures { AreKeptBelow depth lists.old.items lists.new.items }
-{
-    if root < lists.len() {
-        strike_last(&mut lists[root], depth);
-    }
-}
-
-/// Strikes numbers that are noted with the root of a place and not below this one.
-fn strike_place(lists: &mut Vec<Items<usize>>, place: &Option<SelectedPart>, depth: usize)
-    ensures { AreKeptBelow depth lists.old.items lists.new.items }
-{
-    if let Some(place) = place {
-        strike(lists, place.root, depth);
-    }
-}
-
-/// Strikes numbers that are noted with the roots of uses and not below this one.
-fn strike_uses(lists: &mut Vec<Items<usize>>, uses: &[Use], depth: usize)
-    ensures { AreKeptBelow depth lists.old.items lists.new.items }
-{
-    for found in uses {
-        strike(lists, found.part.root, depth);
-    }
-}
-
-/// Strikes numbers that are noted with the roots of a specification and not below this one.
-fn strike_bound(
-    named: &mut Vec<Items<usize>>,
-    read: &mut Vec<Items<usize>>,
-    bound: &Bound,
-    depth: usize,
-)
-    ensures named { AreKeptBelow depth named.old.items named.new.items }
-    ensures read { AreKeptBelow depth read.old.items read.new.items }
-{
-    match bound {
-        Bound::Abbreviation(place, _, reads) => {
-            strike_place(named, place, depth);
-            strike_uses(read, reads.as_slice(), depth);
-        }
-        Bound::Value(_, _, reads) => strike_uses(read, reads.as_slice(), depth),
-        Bound::Root(_) => {}
-        Bound::Body(_, _) => {}
-        Bound::Other => {}
-    }
-}
-
-/// The numbers that are noted with a root.
-fn noted(lists: &[Items<usize>], root: usize) -> &[usize]
-    ensures { result.now ≡ spec_noted lists.now root }
-{
-    match lists.get(root) {
-        Some(numbers) => numbers.as_slice(),
-        None => &[],
     }
 }
 
@@ -377,6 +208,24 @@ fn add_chosen(
     Ok(())
 }
 
+/// Adds the numbers of the specifications that concern a use and are in these lists.
+#[inline(always)]
+fn add_asked(
+    bounds: &[Bound],
+    lists: &[Items<usize>],
+    found: &Use,
+    numbers: &mut Vec<usize>,
+) -> Result<(), AllocError>
+    ensures { OnOk result ((n : ℕ) → is_in numbers.new.items n ≡ (is_in numbers.old.items n || is_asked bounds.now lists.now n found.now)) }
+{
+    if lists.is_empty() {
+        return Ok(());
+    }
+    let (whole, other) = asked(lists, &found.part);
+    add_chosen(bounds, whole, found, numbers)?;
+    add_chosen(bounds, other, found, numbers)
+}
+
 /// Adds the numbers of the specifications that concern a use.
 fn add_found(
     bounds: &[Bound],
@@ -387,11 +236,11 @@ fn add_found(
 ) -> Result<(), AllocError>
     ensures { OnOk result ((n : ℕ) → is_in numbers.new.items n ≡ (is_in numbers.old.items n || is_found bounds.now named.now read.now n found.now)) }
 {
-    add_chosen(bounds, noted(named, found.part.root), found, numbers)?;
+    add_asked(bounds, named, found, numbers)?;
     if !is_write(found.kind) {
         return Ok(());
     }
-    add_chosen(bounds, noted(read, found.part.root), found, numbers)
+    add_asked(bounds, read, found, numbers)
 }
 
 /// The numbers of the specifications that concern one of these uses, in no order, some perhaps more than once.

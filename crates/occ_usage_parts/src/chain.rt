@@ -1,11 +1,11 @@
-//! The abbreviations by whose names a part is reached. Most parts are reached by none, so they are one pointer. Of a long
+//! The abbreviations by whose names a part is reached. Most parts are reached by none or by one, which lies in place. Of a long
 //! chain the beginning is shared: a chain of abbreviations, each made from the one before, takes no square of memory.
 ghost use Rattle.std.specs.List.{filter, list_any};
-ghost use Rattle.std.specs.Prelude.{◌≡◌, ◌==◌, ◌++◌, ◌∷◌, [], IfOk, OnOk, length, nat_lt, slice_get, ℕ};
-ghost use Rattle.occ_usage_parts.specs.inside.Chains.{shared_in};
+ghost use Rattle.std.specs.Prelude.{◌≡◌, ◌==◌, ◌++◌, ◌∷◌, [], IfOk, IsTrue, OnOk, length, nat_lt, slice_get, ℕ};
+ghost use Rattle.occ_usage_parts.specs.inside.Chains.{numbers_in, shared_in};
 ghost use Rattle.std.specs.Str.{bytes_eq};
 
-use occ_base::{Boxed, Items, Shared};
+use occ_base::{Items, Shared};
 use std::alloc::{AllocError, Global};
 use std::marker::Model;
 
@@ -19,11 +19,19 @@ struct Links {
     own: Items<usize>,
 }
 
+/// What is held of a chain. One number alone lies in place.
+#[derive(Drop)]
+enum Held {
+    Nothing,
+    One([usize; 1]),
+    Linked(Shared<Links>),
+}
+
 /// The abbreviations by whose names a part is reached, by the numbers of their specifications: in contracts their list. Most
-/// are reached by none, and then it takes the room of a pointer and no memory beside it.
+/// are reached by none or by one: then it takes no memory beside it. Longer chains are shared by all uses by one name.
 #[derive(Drop)]
 pub struct Chain {
-    links: Option<Boxed<Links>>,
+    held: Held,
 }
 
 impl Model for Chain {
@@ -35,7 +43,7 @@ impl Model for Chain {
 
     ghost coded = { coded_list coded_ℕ };
 
-    ghost view = { λ chain. numbers_of chain.links };
+    ghost view = { λ chain. numbers_of chain.held };
 }
 
 /// Whether the number is one of these.
@@ -67,12 +75,41 @@ fn at(first: &[usize], second: &[usize], index: usize) -> Option<usize>
     }
 }
 
+/// The numbers of links: those that are shared, and those after them.
+fn parts_of(links: &Links) -> (&[usize], &[usize])
+    ensures { result.0.now ++ result.1.now ≡ numbers_in links.now }
+{
+    match &links.shared {
+        Some(shared) => (shared.get().as_slice(), links.own.as_slice()),
+        None => (&[], links.own.as_slice()),
+    }
+}
+
 impl Chain {
     /// No abbreviation.
     pub fn none() -> Chain
         ensures { result ≡ [] }
     {
-        Chain { links: None }
+        Chain {
+            held: Held::Nothing,
+        }
+    }
+
+    /// One abbreviation.
+    fn one(number: usize) -> Chain
+        ensures { result ≡ number ∷ [] }
+    {
+        Chain {
+            held: Held::One([number]),
+        }
+    }
+
+    /// Whether there is none.
+    #[inline(always)]
+    fn is_none(&self) -> bool
+        ensures { IsTrue result → self.now ≡ [] }
+    {
+        matches!(self.held, Held::Nothing)
     }
 
     /// Those of these numbers, some of which may be shared.
@@ -84,7 +121,7 @@ impl Chain {
         ensures { IfOk result (λ chain. chain ≡ shared_in shared ++ own) }
     {
         Ok(Chain {
-            links: Some(Boxed::new(alloc, Links { shared, own })?),
+            held: Held::Linked(Shared::new(alloc, Links { shared, own })?),
         })
     }
 
@@ -92,44 +129,36 @@ impl Chain {
     fn of(alloc: Global, numbers: Items<usize>) -> Result<Chain, AllocError>
         ensures { IfOk result (λ chain. chain ≡ numbers) }
     {
-        if numbers.is_empty() {
-            return Ok(Chain::none());
+        match numbers.as_slice() {
+            [] => Ok(Chain::none()),
+            [number] => Ok(Chain::one(*number)),
+            _ => Chain::over(alloc, None, numbers),
         }
-        Chain::over(alloc, None, numbers)
     }
 
     /// Their numbers: those that are shared, and those after them.
     fn parts(&self) -> (&[usize], &[usize])
         ensures { result.0.now ++ result.1.now ≡ self.now }
     {
-        let Some(links) = &self.links else {
-            return (&[], &[]);
-        };
-        let links = links.get();
-        match &links.shared {
-            Some(shared) => (shared.get().as_slice(), links.own.as_slice()),
-            None => (&[], links.own.as_slice()),
+        match &self.held {
+            Held::Nothing => (&[], &[]),
+            Held::One(number) => (&[], number),
+            Held::Linked(links) => parts_of(links.get()),
         }
     }
 
     /// The same.
     #[inline(always)]
-    pub fn share(&self, alloc: Global) -> Result<Chain, AllocError>
+    pub fn share(&self) -> Result<Chain, AllocError>
         ensures { IfOk result (λ chain. chain ≡ self.now) }
     {
-        let Some(links) = &self.links else {
-            return Ok(Chain::none());
-        };
-        let links = links.get();
-        let shared = match &links.shared {
-            Some(shared) => Some(shared.share()?),
-            None => None,
-        };
-        Chain::over(
-            alloc,
-            shared,
-            Items::from_slice(alloc, links.own.as_slice())?,
-        )
+        match &self.held {
+            Held::Nothing => Ok(Chain::none()),
+            Held::One([number]) => Ok(Chain::one(*number)),
+            Held::Linked(links) => Ok(Chain {
+                held: Held::Linked(links.share()?),
+            }),
+        }
     }
 
     /// All numbers in one list.
@@ -143,23 +172,39 @@ impl Chain {
     }
 
     /// The same with one more abbreviation at the end.
-    pub fn followed(self, alloc: Global, number: usize) -> Result<Chain, AllocError>
-        ensures { IfOk result (λ chain. chain ≡ self ++ number ∷ []) }
+    pub fn followed(&self, alloc: Global, number: usize) -> Result<Chain, AllocError>
+        ensures { IfOk result (λ chain. chain ≡ self.now ++ number ∷ []) }
     {
-        let (_, own) = self.parts();
-        if own.len() >= OWN {
+        match &self.held {
+            Held::Nothing => Ok(Chain::one(number)),
+            Held::One([first]) => {
+                Chain::over(alloc, None, Items::from_slice(alloc, &[*first, number])?)
+            }
+            Held::Linked(links) => self.links_followed(alloc, links.get(), number),
+        }
+    }
+
+    /// The same with one more abbreviation at the end, where it has these links.
+    fn links_followed(
+        &self,
+        alloc: Global,
+        links: &Links,
+        number: usize,
+    ) -> Result<Chain, AllocError>
+        requires { numbers_in links.now ≡ self.now }
+        ensures { IfOk result (λ chain. chain ≡ self.now ++ number ∷ []) }
+    {
+        if links.own.len() >= OWN {
             let all = Shared::new(alloc, self.joined(alloc)?)?;
             return Chain::over(alloc, Some(all), Items::from_slice(alloc, &[number])?);
         }
-        let Chain { links } = self;
-        match links {
-            Some(links) => {
-                let Links { shared, mut own } = links.into_inner();
-                own.push(number)?;
-                Chain::over(alloc, shared, own)
-            }
-            None => Chain::of(alloc, Items::from_slice(alloc, &[number])?),
-        }
+        let mut own = Items::from_slice(alloc, links.own.as_slice())?;
+        own.push(number)?;
+        let shared = match &links.shared {
+            Some(shared) => Some(shared.share()?),
+            None => None,
+        };
+        Chain::over(alloc, shared, own)
     }
 
     /// Whether the abbreviation with this number is one of them.
@@ -175,7 +220,7 @@ impl Chain {
     pub fn below(&self, alloc: Global, bound: usize) -> Result<Chain, AllocError>
         ensures { IfOk result (λ chain. chain ≡ filter (λ (k : ℕ). nat_lt k bound) self.now) }
     {
-        if self.links.is_none() {
+        if self.is_none() {
             return Ok(Chain::none());
         }
         self.some_below(alloc, bound)
@@ -205,7 +250,7 @@ impl Chain {
     pub fn is_same(&self, other: &Chain) -> bool
         ensures { result ≡ bytes_eq self.now other.now }
     {
-        if self.links.is_none() && other.links.is_none() {
+        if self.is_none() && other.is_none() {
             return true;
         }
         self.has_same_numbers(other)

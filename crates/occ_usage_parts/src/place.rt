@@ -133,7 +133,7 @@ impl SelectedPart {
         end(&mut self.selectors, self.ending)?;
         Ok(Part {
             root: self.root,
-            selectors: Selectors::listed(self.selectors),
+            selectors: Selectors::of_items(self.selectors),
         })
     }
 
@@ -157,7 +157,7 @@ impl SelectedPart {
     {
         Ok(SelectedPart {
             root: self.root,
-            chain: self.chain.share(alloc)?,
+            chain: self.chain.share()?,
             selectors: copies(alloc, self.selectors.as_slice())?,
             ending: self.ending,
         })

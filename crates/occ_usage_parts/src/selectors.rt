@@ -53,6 +53,18 @@ impl Selectors {
         }
     }
 
+    /// The same list: one alone is put in place, and its block is given back.
+    pub(crate) fn of_items(mut selectors: Items<PartSelector>) -> Selectors
+        ensures { result ≡ selectors }
+    {
+        if selectors.len() == 1 {
+            if let Some(selector) = selectors.pop() {
+                return Selectors::one(selector);
+            }
+        }
+        Selectors::listed(selectors)
+    }
+
     /// A copy of these.
     pub fn of(alloc: Global, selectors: &[PartSelector]) -> Result<Selectors, AllocError>
         ensures { IfOk result (λ copies. copies ≡ selectors.now) }

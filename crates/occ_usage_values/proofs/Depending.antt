@@ -1,18 +1,18 @@
 -- What expressions, elements and actuals use is the same in scopes that differ in the value of a specification alone, if no subscript
 -- and no bound in them names that.
-use Rattle.std.proofs.Common.{◌≡◌, ◌∙◌, ◌||◌, ℕ, false, Option, None, List, [], ◌∷◌, map, ap, sym, subst}
+use Rattle.std.proofs.Common.{◌≡◌, ◌∙◌, ℕ, false, None, List, [], ◌∷◌, map, sym, subst}
 use Rattle.occ_typing_rules.specs.declared.expr.Selector.{Selector}
 use Rattle.occ_typing_rules.specs.declared.expr.Selector.TheFolds.{ind-TypedActual, ind-TypedExpr, map-TypedActual, map-TypedExpr}
-use Rattle.occ_typing_rules.specs.declared.expr.Selector.TheOpen.{TypedActual-F, TypedElement-F, TypedExpr-F}
+use Rattle.occ_typing_rules.specs.declared.expr.Selector.TheOpen.{TypedActual-F, TypedExpr-F}
 use Rattle.occ_typing_rules.specs.declared.expr.TypedActual.{TypedActual, roll-TypedActual}
 use Rattle.occ_typing_rules.specs.declared.expr.TypedActual.TheVariants as av
-use Rattle.occ_typing_rules.specs.declared.expr.TypedElement.{TypedElement, out-TypedElement, roll-TypedElement}
+use Rattle.occ_typing_rules.specs.declared.expr.TypedElement.{TypedElement, out-TypedElement}
 use Rattle.occ_typing_rules.specs.declared.expr.TypedExpr.{TypedExpr, roll-TypedExpr}
 use Rattle.occ_typing_rules.specs.declared.expr.TypedExpr.TheVariants as tv
 use Rattle.occ_usage_values.specs.Naming.{actual_depends, actuals_depend, element_depends, expr_depends, exprs_depend, selectors_name}
 use Rattle.occ_usage_values.specs.Values.{converted_to, known_or, one, size_value}
-use Rattle.occ_usage_values.specs.Views.{actual_view, actual_views, element_view, expr_view, expr_views, folded_all, selector_views}
-use Rattle.occ_usage_values.proofs.Differing.{ActualSame, ElementAlike, Every, ExprAlike, actual_value_same, actual_variable_same, around_alike, call_same, element_read_alike, element_step_alike, expr_alike, left_false, literal_same, parts_alike, right_false}
+use Rattle.occ_usage_values.specs.Views.{actual_view, actual_views, element_view, expr_view, expr_views, folded_all}
+use Rattle.occ_usage_values.proofs.Differing.{ActualSame, ElementAlike, Every, ExprAlike, actual_value_same, actual_variable_same, around_alike, call_same, element_read_alike, element_step_alike, expr_alike, left_false, parts_alike, right_false}
 use Rattle.occ_usage_values.proofs.Names as names
 use Rattle.occ_usage_values.proofs.Sameness.{all_selectors_same}
 use Rattle.occ_usage_values.proofs.Views as views

@@ -26,7 +26,6 @@ pub struct Call {
 /// A use of a place, if it is one that is used.
 #[inline(always)]
 pub(crate) fn push_made(
-    alloc: Global,
     kind: UseKind,
     line: &Location,
     place: Option<SelectedPart>,
@@ -37,7 +36,7 @@ pub(crate) fn push_made(
     let Some(place) = place else {
         return Ok(());
     };
-    let chain = place.chain.share(alloc)?;
+    let chain = place.chain.share()?;
     let part = place.into_part()?;
     uses.push(Use {
         part,
@@ -61,7 +60,7 @@ fn push_of_actual(
         part: place.followed_by(alloc, found.part.selectors.as_slice())?,
         kind: found.kind,
         line: line.share()?,
-        chain: place.chain.share(alloc)?,
+        chain: place.chain.share()?,
     })
 }
 

@@ -30,7 +30,7 @@ impl Use {
             },
             kind: self.kind,
             line: line.share()?,
-            chain: self.chain.share(alloc)?,
+            chain: self.chain.share()?,
         })
     }
 }

@@ -55,7 +55,7 @@ fn use_of_place(
     ensures { OnOk result (uses.new ≡ uses.old ++ spec_made line.now kind ((element_view element.now).place env.now)) }
 {
     let place = place(alloc, element, env)?;
-    push_made(alloc, kind, line, place, uses)
+    push_made(kind, line, place, uses)
 }
 
 /// A use of a part that no abbreviation leads to.
@@ -143,7 +143,7 @@ fn use_of_selected(
 {
     let mut place = SelectedPart::with_room(alloc, root, selectors.len())?;
     select_all(alloc, &mut place, selectors, None, env)?;
-    push_made(alloc, kind, line, Some(place), uses)
+    push_made(kind, line, Some(place), uses)
 }
 
 /// What the actual is for a formal that is not VAL.

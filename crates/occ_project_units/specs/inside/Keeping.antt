@@ -1,14 +1,17 @@
 -- What a graph keeps.
 use Rattle.std.specs.List.{filter, insert}
-use Rattle.std.specs.Prelude.{◌≡◌, ◌<◌, ◌≤◌, ◌⊎◌, ◌==◌, ℕ, false, true, not, List, [], get_or, length, map, slice_get, Option, Some, None}
+use Rattle.std.specs.Option.{option_map, unwrap_or}
+use Rattle.std.specs.Prelude.{◌≡◌, ◌<◌, ◌≤◌, ◌⊎◌, ◌==◌, ◌%◌, ℕ, zero, suc, Bool, false, true, not, List, [], ◌∷◌, get_or, length, map, slice_get, Option, Some, None}
 use Rattle.std.specs.Str.{bytes_eq}
-use Rattle.occ_project_graph.specs.Adding.{IsParted, raised, with_used_node}
-use Rattle.occ_project_graph.specs.Graph.{Graph, is_among as is_index, targets}
+use Rattle.occ_base.specs.Mixing.{number_of_bytes}
+use Rattle.occ_project_graph.specs.Adding.{IsParted, with_used_node}
+use Rattle.occ_project_graph.specs.Graph.{Graph, targets}
 use Rattle.occ_project.specs.declared.reads.Read.{Read}
 use Rattle.occ_project.specs.Entries.{is_among}
 use Rattle.occ_project.specs.Reads.{index}
 use Rattle.occ_project_units.specs.Along.{name_at}
 use Rattle.occ_project_units.specs.declared.facts.Facts.{Facts}
+use Rattle.occ_project_units.specs.declared.lookers.Lookers.{Lookers}
 use Rattle.occ_project_units.specs.Indices.{graph_of, indices_of, read_graph, readers_at}
 use Rattle.occ_project_units.specs.New.{IsGap}
 use Rattle.occ_project_units.specs.Project.{file_of}
@@ -34,29 +37,55 @@ abbrev pub AreReaders : List Read → Option Graph → Type 0
 AreReaders files None = Unit {0}
 AreReaders files (Some rows) = (p : ℕ) → p < length files → get_or rows p [] ≡ others p (readers_at files p)
 
--- a file reads and uses none that is not there
-abbrev pub IsLookingForNone : List Read → List ℕ → Type 0
-IsLookingForNone files unit = (name : List ℕ) → index name files ≡ None → (is_among (read_names files unit) name ≡ false) × (is_among (used_units files unit) name ≡ false)
+-- which of n rows is that of a name
+abbrev pub row_of : List ℕ → ℕ → Option ℕ
+row_of name zero = None
+row_of name (suc n) = Some (number_of_bytes 0 name % suc n)
 
--- all do but those at these indices, if that is known
-abbrev pub AreLacking : List Read → Option (List ℕ) → Type 0
-AreLacking files None = Unit {0}
-AreLacking files (Some lacking) = (p : ℕ) → p < length files → (is_index lacking p ≡ true) ⊎ IsLookingForNone files (name_at files p)
+-- the files of that row
+abbrev pub looking_for : Lookers → List ℕ → List (List ℕ)
+looking_for lookers name = unwrap_or (option_map (λ at. get_or lookers.rows.items at []) (row_of name (length lookers.rows.items))) []
 
--- and will, once a file comes to an index
-pub record AreLackingThen (files : List Read) (at : ℕ) (lacking : List ℕ) : Type 0 where
-  pub new : is_index lacking at ≡ true
-  pub others : (p : ℕ) → p < length files → (is_index lacking (raised at p) ≡ true) ⊎ IsLookingForNone files (name_at files p)
+-- where a file is found it is found still
+abbrev pub IsMore : Lookers → Lookers → Type 0
+IsMore lookers more = (name unit : List ℕ) → is_among (looking_for lookers name) unit ≡ true → is_among (looking_for more name) unit ≡ true
 
-abbrev pub AreLackingWith : List Read → ℕ → Option (List ℕ) → Type 0
-AreLackingWith files at None = Unit {0}
-AreLackingWith files at (Some lacking) = AreLackingThen files at lacking
+-- a file is found by each other name that these facts look up, and use, unless what they use is there
+abbrev pub IsNotedOf : Facts → List ℕ → Bool → Lookers → Type 0
+IsNotedOf known unit are_there lookers = (name : List ℕ) → bytes_eq unit name ≡ false → (is_among known.reads name ≡ true → is_among (looking_for lookers name) unit ≡ true) × (are_there ≡ false → is_among known.uses name ≡ true → is_among (looking_for lookers name) unit ≡ true)
 
-pub record IsGraph (files : List Read) (facts : List Facts) (links : Graph) (readers : Option Graph) (lacking : Option (List ℕ)) : Type 0 where
+-- it reads itself at most and an edge leads to each that it uses, or it is so
+abbrev pub IsNotedBy : Facts → List ℕ → ℕ → Lookers → Type 0
+IsNotedBy known unit edges lookers = ((length known.reads ≤ 1) × (edges ≡ length known.uses)) ⊎ IsNotedOf known unit (edges == length known.uses) lookers
+
+-- a file is found by each other name that it reads, and by each that it uses and that is not there
+abbrev pub IsNoted : List Read → List ℕ → Lookers → Type 0
+IsNoted files unit lookers = (name : List ℕ) → bytes_eq unit name ≡ false → (is_among (read_names files unit) name ≡ true → is_among (looking_for lookers name) unit ≡ true) × (index name files ≡ None → is_among (used_units files unit) name ≡ true → is_among (looking_for lookers name) unit ≡ true)
+
+-- all files are
+abbrev pub AreLookers : List Read → Lookers → Type 0
+AreLookers files lookers = (p : ℕ) → p < length files → IsNoted files (name_at files p) lookers
+
+-- if it is known who looks for what
+abbrev pub AreLookersIf : List Read → Option Lookers → Type 0
+AreLookersIf files None = Unit {0}
+AreLookersIf files (Some lookers) = AreLookers files lookers
+
+-- the file at an index is noted and where files were found they are found still, or all are noted
+abbrev pub AreNotedWith : List Read → ℕ → Option Lookers → Lookers → Type 0
+AreNotedWith files at None next = AreLookers files next
+AreNotedWith files at (Some lookers) next = (IsMore lookers next × IsNoted files (name_at files at) next) ⊎ AreLookers files next
+
+-- those are noted that read the edited file, and where files were found they are found still
+abbrev pub AreNotedAfter : List Read → List ℕ → Option Lookers → Lookers → Type 0
+AreNotedAfter files edited None next = ⊥
+AreNotedAfter files edited (Some lookers) next = IsMore lookers next × ((p : ℕ) → p < length files → is_among (read_names files (name_at files p)) edited ≡ true → IsNoted files (name_at files p) next)
+
+pub record IsGraph (files : List Read) (facts : List Facts) (links : Graph) (readers : Option Graph) (lookers : Option Lookers) : Type 0 where
   pub facts_are : facts ≡ all_facts files
   pub links_are : links ≡ graph_of files
   pub readers_are : AreReaders files readers
-  pub lacking_are : AreLacking files lacking
+  pub lookers_are : AreLookersIf files lookers
 
 -- what is known of a file reads and uses what it did before
 abbrev pub IsAsBefore : Option Facts → Option Facts → Type 0
@@ -73,6 +102,9 @@ pub record IsRenewed (files later : List Read) : Type 0 where
   pub len : length later ≡ length files
   pub graph : graph_of later ≡ graph_of files
   pub reads : read_graph later ≡ read_graph files
+  pub placed : (name : List ℕ) → index name later ≡ index name files
+  pub named : (p : ℕ) → p < length files → name_at later p ≡ name_at files p
+  pub known : (p : ℕ) → p < length files → (read_names files (name_at files p) ≡ read_names later (name_at files p)) × (used_units files (name_at files p) ≡ used_units later (name_at files p))
 
 -- no file has the name, which would stand at this index, and none reads it
 pub record IsUnread (files : List Read) (name : List ℕ) (at : ℕ) : Type 0 where

@@ -99,32 +99,33 @@ each_fitted of (j ∷ js) (d ∷ ds) h e =
     )
 
 -- what is faulty stands as it was settled
-own_if : (b w : Bool) (y : Settled) (j : Judged) → y.is_faulty ≡ b → (y.faults ≡ [] → y.is_faulty ≡ false) → j.is_faulty ≡ false → (own_or_alone w y j).faults ≡ [] → b ≡ false
-own_if false w y j is h g e = refl
-own_if true true y j is h g e =
-    let stand : stands true y j ≡ true = ap (λ (b : Bool). b || j.is_untyped) is in
+own_if : (b w own : Bool) (y : Settled) (j : Judged) → y.is_faulty ≡ b → (y.faults ≡ [] → y.is_faulty ≡ false) → own ≡ false → (own_or_alone w own y j).faults ≡ [] → b ≡ false
+own_if false w own y j is h g e = refl
+own_if true true own y j is h g e =
+    let stand : stands true own y j ≡ true = ap (λ (b : Bool). b || j.is_untyped) is in
     sym is ∙ h (sym (ap (λ (b : Bool). (chosen b (record { faults = y.faults; kind = k.Faulty }) j.alone).faults) stand) ∙ e)
-own_if true false y j is h g e =
-    let stand : stands false y j ≡ true = ap (λ (b : Bool). b && not j.is_faulty) is ∙ ap not g in
+own_if true false own y j is h g e =
+    let stand : stands false own y j ≡ true = ap (λ (b : Bool). b && not own) is ∙ ap not g in
     sym is ∙ h (sym (ap (λ (b : Bool). (chosen b (record { faults = y.faults; kind = k.Faulty }) j.alone).faults) stand) ∙ e)
 
-own_none : (w : Bool) (of : OccType) (js : List Judged) (ds : List OpenExpr) → AllSound js ds → all_faults (each_own_or_alone w (map (settled_under of) js) js) ≡ [] → list_any is_faulty_settled (map (settled_under of) js) ≡ false
-own_none w of [] ds h e = refl
-own_none w of (j ∷ js) [] h e = absurd h
-own_none w of (j ∷ js) (d ∷ ds) h e =
-    let here = own_or_alone w (j.settled of) j in
-    let rest = all_faults (each_own_or_alone w (map (settled_under of) js) js) in
-    let first : (j.settled of).is_faulty ≡ false = own_if (j.settled of).is_faulty w (j.settled of) j refl (λ g. (h.0.settles of g).0) h.0.faultless (front_clean here.faults rest e) in
-    ap (λ (b : Bool). b || list_any is_faulty_settled (map (settled_under of) js)) first ∙ own_none w of js ds h.1 (back_clean here.faults rest e)
+own_none : (w own : Bool) (of : OccType) (js : List Judged) (ds : List OpenExpr) → AllSound js ds → own ≡ false → all_faults (each_own_or_alone w own (map (settled_under of) js) js) ≡ []
+    → list_any is_faulty_settled (map (settled_under of) js) ≡ false
+own_none w own of [] ds h g e = refl
+own_none w own of (j ∷ js) [] h g e = absurd h
+own_none w own of (j ∷ js) (d ∷ ds) h g e =
+    let here = own_or_alone w own (j.settled of) j in
+    let rest = all_faults (each_own_or_alone w own (map (settled_under of) js) js) in
+    let first : (j.settled of).is_faulty ≡ false = own_if (j.settled of).is_faulty w own (j.settled of) j refl (λ g. (h.0.settles of g).0) g (front_clean here.faults rest e) in
+    ap (λ (b : Bool). b || list_any is_faulty_settled (map (settled_under of) js)) first ∙ own_none w own of js ds h.1 g (back_clean here.faults rest e)
 
 abbrev Under : Bool → OccType → List Judged → List OpenExpr → Type 0
 Under w of js ds = (list_any is_faulty_settled (map (settled_under of) js) ≡ false) × EachReads of (each_under w of js) ds
 
 abbrev fitted_if : Bool → Bool → OccType → List Judged → List Finding
-fitted_if b w of js = if b then each_own_or_alone w (map (settled_under of) js) js else map (fitted_to of) (map (settled_under of) js)
+fitted_if b w of js = if b then each_own_or_alone w (list_any has_fault js) (map (settled_under of) js) js else map (fitted_to of) (map (settled_under of) js)
 
 under_if : (b w : Bool) (of : OccType) (js : List Judged) (ds : List OpenExpr) → AllSound js ds → list_any is_faulty_settled (map (settled_under of) js) ≡ b → all_faults (fitted_if b w of js) ≡ [] → (b ≡ false) × EachReads of (fitted_if b w of js) ds
-under_if true w of js ds h is e = let g : true ≡ false = sym is ∙ own_none w of js ds h e in absurd cc
+under_if true w of js ds h is e = let g : true ≡ false = sym is ∙ own_none w (list_any has_fault js) of js ds h (none_faulty js ds h) e in absurd cc
 under_if false w of js ds h is e = (refl, each_fitted of js ds h e)
 
 each_reads : (w : Bool) (of : OccType) (js : List Judged) (ds : List OpenExpr) → AllSound js ds → all_faults (each_under w of js) ≡ [] → Under w of js ds

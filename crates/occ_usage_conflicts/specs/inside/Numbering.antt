@@ -1,25 +1,21 @@
 -- A number of each use, by which it is looked for: the same for those that are the same.
 use Rattle.std.specs.Prelude.{ℕ, ◌+◌, ◌-◌, ◌*◌, ◌/◌, ◌%◌, ◌^◌, bit_and, unsigned_abs, List, [], ◌∷◌}
+use Rattle.occ_base.specs.Mixing.{mixed, number_of_bytes}
 use Rattle.occ_usage_values.specs.declared.uses.Use.{Use}
 use Rattle.occ_types.specs.declared.interface.PartSelector.{PartSelector}
 use Rattle.occ_types.specs.declared.interface.PartSelector.TheVariants as s
 use Rattle.occ_types.specs.declared.interface.Places.{Places}
 use Rattle.occ_types.specs.declared.interface.Places.TheVariants as places
 
--- one number of two
-abbrev pub mixed : ℕ → ℕ → ℕ
-mixed seed more = (seed + more) % 2 ^ 64 * 11400714819323198485 % 2 ^ 64
-
--- that of bytes, going on from a seed
-abbrev pub number_of_bytes : ℕ → List ℕ → ℕ
-number_of_bytes seed [] = seed
-number_of_bytes seed (b ∷ bs) = number_of_bytes (mixed seed b) bs
+-- that of a run: no number of two in a row, so that places which go up as lines go down stay apart
+abbrev pub number_of_run : ℕ → ℕ → ℕ
+number_of_run first count = (first + count * 14029467366897019727 % 2 ^ 64) % 2 ^ 64
 
 abbrev pub number_of_places : Places → ℕ
 number_of_places places.None = 0
 number_of_places places.All = 1
 number_of_places (places.From a) = unsigned_abs a
-number_of_places (places.Run a n) = mixed (unsigned_abs a) n
+number_of_places (places.Run a n) = number_of_run (unsigned_abs a) n
 
 abbrev pub number_of_selector : PartSelector → ℕ
 number_of_selector (s.Field name) = number_of_bytes 0 name

@@ -17,6 +17,7 @@ returns-clause-links c =
     let none : indices_of later (used_units later (name_at later c.args.at)) ≡ [] =
     ap (λ (n : List ℕ). indices_of later (used_units later n)) (sym c.name_at-name.ensures)
     ∙ ap (λ (f : Facts). indices_of later f.uses) (sym c.in_ok-known.ensures)
+    ∙ ap (indices_of later) (sym c.get.ensures)
     ∙ ap (indices_of later) (sym c.as_slice.ensures)
     ∙ sym c.in_ok-targets.ensures
     ∙ c.is_empty.ensures.0 c.if-not-is_empty.false in

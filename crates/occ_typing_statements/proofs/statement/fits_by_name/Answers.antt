@@ -1,8 +1,6 @@
-use Rattle.std.proofs.Common.{rules, ◌≡◌, sym, ◌∙◌, true}
+use Rattle.std.proofs.Common.{rules, ◌≡◌, true}
 use Rattle.occ_types.specs.Fits.{is_data}
-use Rattle.occ_typing_operands.specs.declared.kind.Kind.{Kind}
 use Rattle.occ_typing_operands.specs.declared.kind.Kind.TheVariants as k
-use Rattle.occ_expr.specs.Targets.{target_of}
 use Rattle.occ_typing_statements.proofs.Named.{value_of_one_type}
 use Rattle.occ_typing_statements.proofs.statement.fits_by_name.Goals as goal
 

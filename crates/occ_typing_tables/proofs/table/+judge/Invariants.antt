@@ -8,8 +8,8 @@ invariant-each_settled-loop-term l = l.found ++ map (settled_under l.of) (judged
 
 abbrev pub invariant-each_own_or_alone-loop-term : goal.invariant-each_own_or_alone-loop-term
 invariant-each_own_or_alone-loop-term l =
-    (l.kinds ++ kinds (each_own_or_alone l.from_outside l.settled (judged_all (drop l.term-index l.terms))) ≡ kinds (each_own_or_alone l.from_outside l.initial.settled (judged_all l.terms)))
-    × (l.faults ++ all_faults (each_own_or_alone l.from_outside l.settled (judged_all (drop l.term-index l.terms))) ≡ l.initial.faults ++ all_faults (each_own_or_alone l.from_outside l.initial.settled (judged_all l.terms)))
+    (l.kinds ++ kinds (each_own_or_alone l.from_outside l.has_own l.settled (judged_all (drop l.term-index l.terms))) ≡ kinds (each_own_or_alone l.from_outside l.has_own l.initial.settled (judged_all l.terms)))
+    × (l.faults ++ all_faults (each_own_or_alone l.from_outside l.has_own l.settled (judged_all (drop l.term-index l.terms))) ≡ l.initial.faults ++ all_faults (each_own_or_alone l.from_outside l.has_own l.initial.settled (judged_all l.terms)))
 
 abbrev pub invariant-first_settled-loop-item : goal.invariant-first_settled-loop-item
 invariant-first_settled-loop-item l =

@@ -1,6 +1,6 @@
 use Rattle.std.proofs.Common.{rules, ◌≡◌, ◌∙◌, Some, length, sym}
 use Rattle.occ_usage_conflicts.proofs.Spreading.{own_list}
-use Rattle.occ_usage_conflicts.specs.inside.Spreading.{list_of}
+use Rattle.occ_usage_conflicts.specs.inside.Beginning.{list_of}
 use Rattle.occ_usage_conflicts.proofs.accumulated.meets_spread.Goals as goal
 
 pub returns-in-Some : goal.returns-in-Some

@@ -1,4 +1,4 @@
-use Rattle.std.proofs.Common.{◌≡◌, ◌∙◌, ◌≤◌, ◌<◌, ◌+◌, ◌++◌, ℕ, suc, Bool, List, ap, sym, refl, arith, append_assoc, rules, length}
+use Rattle.std.proofs.Common.{◌≡◌, ◌∙◌, ◌+◌, ◌++◌, ℕ, suc, Bool, List, ap, sym, arith, append_assoc, rules}
 use Rattle.occ_base.specs.declared.diag.Diag.{Diag}
 use Rattle.occ_usage_conflicts.specs.ParallelRule.{below, fault_if, root_fault}
 use Rattle.occ_usage_conflicts.specs.declared.rule.Least.TheVariants as least

@@ -1,4 +1,4 @@
-use Rattle.std.proofs.Common.{◌≡◌, sym, subst, List}
+use Rattle.std.proofs.Common.{sym, subst, List}
 use Rattle.occ_usage_conflicts.specs.declared.presence.Presence.{Presence}
 use Rattle.occ_usage_conflicts.specs.inside.Presences.{IsIn}
 use Rattle.occ_usage_conflicts.proofs.Targets.{set_kept}

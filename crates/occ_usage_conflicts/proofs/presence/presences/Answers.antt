@@ -1,4 +1,4 @@
-use Rattle.std.proofs.Common.{◌≡◌, ◌<◌, ◌≤◌, ℕ, length, arith, subst, sym}
+use Rattle.std.proofs.Common.{◌<◌, ◌≤◌, ℕ, length, arith, subst}
 use Rattle.std.proofs.lemmas.Option.{slice_get_within}
 use Rattle.occ_usage_conflicts.specs.inside.Presences.{IsIn}
 use Rattle.occ_usage_conflicts.proofs.Once.{got_within}

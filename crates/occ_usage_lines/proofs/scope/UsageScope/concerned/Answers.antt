@@ -1,10 +1,22 @@
-use Rattle.std.proofs.Common.{rules, ◌≡◌, ◌∙◌, ℕ, List, ap}
+use Rattle.std.proofs.Common.{rules, ◌≡◌, ◌∙◌, ℕ, List, ap, sym}
 use Rattle.std.specs.List.{list_any}
 use Rattle.occ_usage_values.specs.declared.bound.Bound.{Bound}
 use Rattle.occ_usage_lines.specs.Concern.{concerned}
 use Rattle.occ_usage_lines.specs.inside.Noting.{is_found, is_in}
-use Rattle.occ_usage_lines.proofs.Choosing.{all_found}
+use Rattle.occ_usage_lines.proofs.Choosing.{all_found, empty_list, nothing_concerns}
 use Rattle.occ_usage_lines.proofs.scope.UsageScope.concerned.Goals as goal
+
+pub returns-then-is_empty-2 : goal.returns-then-is_empty-2
+returns-then-is_empty-2 c =
+    let s = c.self.inside in
+    let us = c.args.uses.now in
+    let view : s.bounds ≡ c.args.self.now = search rules in
+    let named : c.as_slice-named.result.now ≡ s.named.items = search rules in
+    let read : c.as_slice-read.result.now ≡ s.read.items = search rules in
+    c.new.ensures
+    ∙ nothing_concerns s.named.items s.read.items s.bounds us (sym named ∙ empty_list c.as_slice-named.result.now (sym c.is_empty.ensures ∙ c.if-is_empty.true))
+    (sym read ∙ empty_list c.as_slice-read.result.now (sym c.is_empty-then-is_empty.ensures ∙ c.if-is_empty-2.true)) c.self.invariant.named c.self.invariant.read
+    ∙ ap (λ (xs : List Bound). concerned 0 xs us) view
 
 pub returns : goal.returns
 returns c =
