@@ -1,7 +1,7 @@
 //! When a type is too large (T9): by bytes, levels or number of types. A type with what is asked of it for that, found once.
 #![tactic(auto, using(crate::proofs::Larges::large_rules, crate::proofs::Sizes::size_rules, crate::proofs::Measures::measure_rules, crate::proofs::Unknowns::unknown_rules, crate::proofs::Channels::channel_rules))]
 
-ghost use Rattle.std.specs.Prelude.{IfOk, [], ◌∷◌, ◌≡◌};
+ghost use Rattle.std.specs.Prelude.{IfOk, IfSome, [], ◌∷◌, ◌≡◌, ◌≤◌};
 ghost use Rattle.occ_types.specs.Large.{is_oversized as spec_is_oversized, is_too_large as spec_is_too_large, is_too_wide as spec_is_too_wide};
 ghost use Rattle.occ_types.specs.Measure.{held, measure_of as spec_measure_of};
 ghost use Rattle.occ_types.specs.Size.{capped, is_over as spec_is_over, size_of};
@@ -12,7 +12,7 @@ ghost use Rattle.occ_types.specs.declared.types.Protocol.TheVariants as p;
 ghost use Rattle.std.specs.Prelude.{ℕ, Option};
 
 use super::measure::{Measure, measure_of};
-use super::size::{array_extent, extent, is_oversized as has_too_many_bytes};
+use super::size::{array_extent, extent};
 use super::types::{Item, OccType, Protocol};
 use super::unknown::holds_unknown;
 use super::value::Primitive;
@@ -46,23 +46,23 @@ impl Model for KnownType {
     ghost invariant = { IsKnown };
 }
 
-/// Whether a type, or one that it is an array of, has over 2,147,483,647 bytes.
-fn is_oversized(of: &OccType) -> bool
-    ensures { result ≡ spec_is_oversized of.now }
+/// The bytes of a type, or 2,147,483,648 where they are more, and whether it, or a type that it is an array of, has over
+/// 2,147,483,647. A nest of arrays is gone through once.
+fn sized(of: &OccType) -> (Option<u64>, bool)
+    ensures extent { result.0 ≡ capped (size_of of.now) }
+    ensures most { IfSome result.0 (λ bytes. bytes ≤ 2147483648) }
+    ensures oversized { result.1 ≡ spec_is_oversized of.now }
 {
     match of {
-        OccType::Array(_, inner) => has_too_many_bytes(of) || is_oversized(inner.get()),
-        _ => has_too_many_bytes(of),
-    }
-}
-
-/// Whether a type of this extent, or one that it is an array of, has over 2,147,483,647 bytes.
-fn is_oversized_at(of: &OccType, extent: Option<u64>) -> bool
-    ensures { extent ≡ capped (size_of of.now) → result ≡ spec_is_oversized of.now }
-{
-    match of {
-        OccType::Array(_, inner) => is_over(extent) || is_oversized(inner.get()),
-        _ => is_over(extent),
+        OccType::Array(count, inner) => {
+            let (extent, is_oversized) = sized(inner.get());
+            let extent = array_extent(*count, extent);
+            (extent, is_over(extent) || is_oversized)
+        }
+        _ => {
+            let extent = extent(of);
+            (extent, is_over(extent))
+        }
     }
 }
 
@@ -89,7 +89,8 @@ fn is_too_wide(measure: Measure) -> bool
 pub fn is_too_large(of: &OccType) -> bool
     ensures { result ≡ spec_is_too_large of.now }
 {
-    is_oversized(of) || is_too_wide(measure_of(of)) && !holds_unknown(of)
+    let (_, is_oversized) = sized(of);
+    is_oversized || is_too_wide(measure_of(of)) && !holds_unknown(of)
 }
 
 /// A channel whose protocol is this one item.
@@ -106,12 +107,12 @@ impl KnownType {
     pub fn new(of: Shared<OccType>) -> KnownType
         ensures { result ≡ of }
     {
-        let extent = extent(of.get());
+        let (extent, is_oversized) = sized(of.get());
         KnownType {
             extent,
             measure: measure_of(of.get()),
             holds_unknown: holds_unknown(of.get()),
-            is_oversized: is_oversized_at(of.get(), extent),
+            is_oversized,
             of,
         }
     }

@@ -35,7 +35,7 @@ pub use maybe_value::MaybeValue;
 pub use measure::{Measure, measure_of, measure_protocol};
 pub use part_name::{PartName, SoughtPart};
 pub use same::{same_protocol, same_type};
-pub use size::{bytes_of, is_oversized};
+pub use size::bytes_of;
 pub use types::{Field, Item, OccType, Packing, Protocol, Tag};
 pub use unknown::holds_unknown;
 pub use value::{Primitive, Value};

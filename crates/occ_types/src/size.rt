@@ -2,7 +2,7 @@
 #![tactic(auto, using(crate::proofs::Sizes::size_rules))]
 
 ghost use Rattle.std.specs.Prelude.{IfSome, ◌+◌, ◌≡◌, ◌≤◌};
-ghost use Rattle.occ_types.specs.Size.{bytes_in, capped, cut, field_sizes, is_over, primitive_size, product_of, size_of, total_of};
+ghost use Rattle.occ_types.specs.Size.{bytes_in, capped, cut, field_sizes, primitive_size, product_of, size_of, total_of};
 
 use super::types::{Field, OccType};
 use super::value::Primitive;
@@ -12,16 +12,6 @@ pub fn bytes_of(of: &OccType) -> Option<u32>
     ensures { result ≡ bytes_in (size_of of.now) }
 {
     within(extent(of))
-}
-
-/// Whether a type has over 2,147,483,647 bytes.
-pub fn is_oversized(of: &OccType) -> bool
-    ensures { result ≡ is_over (size_of of.now) }
-{
-    match extent(of) {
-        Some(bytes) => bytes > 2_147_483_647,
-        None => false,
-    }
 }
 
 /// The extent, unless it is too large.

@@ -1,7 +1,8 @@
 //! One type that agrees with two others, filling in unknown numbers of components.
 #![tactic(auto, using(crate::proofs::Filling::filling_rules))]
 
-ghost use Rattle.std.specs.Prelude.{◌≡◌, IfOk, MatchOption, None, Some};
+ghost use Rattle.std.specs.Prelude.{◌≡◌, IfOk, IsTrue, MatchOption, None, Some};
+ghost use Rattle.occ_types.specs.declared.types.OccType.{OccType as SpecType};
 ghost use Rattle.occ_typing_tables.specs.Merging.{filled as spec_filled, known_count as spec_known_count, merged as spec_merged};
 
 use occ_base::Shared;
@@ -30,6 +31,17 @@ fn filled(alloc: Global, a: &Shared<OccType>, b: &OccType) -> Result<Shared<OccT
     }
 }
 
+/// Whether a type says how many components it has, in each dimension that it begins with: then no other fills anything in.
+fn is_closed(of: &OccType) -> bool
+    ensures { IsTrue result → (other : SpecType) → spec_filled of.now other ≡ of.now }
+{
+    match of {
+        OccType::Array(Some(_), inner) => is_closed(inner.get()),
+        OccType::Array(None, _) => false,
+        _ => true,
+    }
+}
+
 /// One type that agrees with both, if they agree.
 pub fn merged(
     alloc: Global,
@@ -38,8 +50,11 @@ pub fn merged(
 ) -> Result<Option<Shared<OccType>>, AllocError>
     ensures { IfOk result (λ of. of ≡ spec_merged a.now b.now) }
 {
-    if fits(a.get(), b.get()) {
-        return Ok(Some(filled(alloc, a, b.get())?));
+    if !fits(a.get(), b.get()) {
+        return Ok(None);
     }
-    Ok(None)
+    if is_closed(a.get()) {
+        return Ok(Some(a.share()?));
+    }
+    Ok(Some(filled(alloc, a, b.get())?))
 }
