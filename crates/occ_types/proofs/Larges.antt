@@ -6,9 +6,10 @@ use Rattle.occ_types.specs.declared.types.Item.TheOpen.{OccType-F}
 use Rattle.occ_types.specs.declared.types.Item.TheViews.{roll-out-OccType}
 use Rattle.occ_types.specs.declared.types.OccType.{OccType, out-OccType, roll-OccType}
 use Rattle.occ_types.specs.declared.types.OccType.TheVariants as t
-use Rattle.occ_types.specs.Size.{is_over, size_of}
+use Rattle.occ_types.specs.Size.{capped, is_over, product_of, size_of}
 use Rattle.occ_types.specs.View.{Layer, of_component}
 use Rattle.occ_types.proofs.Agreeing.{as_array_at_array}
+use Rattle.occ_types.proofs.Sizes.{cut_product, size_array}
 use Rattle.occ_types.specs.Large.{is_oversized, oversized_step}
 
 abbrev oversized_fold : OccType → OccType → Bool
@@ -35,5 +36,13 @@ is_oversized_itself u h =
     ap is_oversized (sym (roll-out-OccType u))
     ∙ is_oversized_layer (out-OccType u) (λ n inner e. h n inner (sym (roll-out-OccType u) ∙ e))
     ∙ ap (λ (v : OccType). is_over (size_of v)) (roll-out-OccType u)
+
+-- an array of this extent is oversized by its extent, or since what it is an array of is
+pub oversized_nest : (u inner : OccType) (n within extent : Option ℕ) (r : Bool) → u ≡ t.Array n inner → within ≡ capped (size_of inner) → extent ≡ capped (product_of n within)
+    → ((size : Option ℕ) → extent ≡ capped size → r ≡ is_over size) → (r || is_oversized inner) ≡ is_oversized u
+oversized_nest u inner n within extent r is inside value over =
+    ap (λ (b : Bool). b || is_oversized inner)
+        (over (size_of (t.Array n inner)) (value ∙ ap (λ (s : Option ℕ). capped (product_of n s)) inside ∙ cut_product n (size_of inner) ∙ ap capped (sym (size_array n inner))))
+    ∙ sym (is_oversized_array n inner) ∙ ap is_oversized (sym is)
 
 pub ruleset large_rules = (is_oversized_array, is_oversized_itself)

@@ -1,5 +1,5 @@
 -- The numbers of components that a type leaves unknown, form by form.
-use Rattle.std.proofs.Common.{◌≡◌, ◌≢◌, ◌∙◌, ℕ, Option, Some, None, ap, sym}
+use Rattle.std.proofs.Common.{◌≡◌, ◌≢◌, ◌∙◌, ℕ, Option, Some, None, ap, refl, sym}
 use Rattle.occ_types.specs.declared.types.Item.TheFolds.{fold-OccType, fold-roll-OccType}
 use Rattle.occ_types.specs.declared.types.Item.TheOpen.{OccType-F}
 use Rattle.occ_types.specs.declared.types.Item.TheViews.{roll-out-OccType}
@@ -40,5 +40,13 @@ filled_itself a b h =
     ap (λ (u : OccType). filled u b) (sym (roll-out-OccType a))
     ∙ filled_layer (out-OccType a) b (λ n inner e. h n inner (sym (roll-out-OccType a) ∙ e))
     ∙ roll-out-OccType a
+
+closed_by : (m : ℕ) (x b : OccType) → ((other : OccType) → filled x other ≡ x) → (p : Option (Option ℕ × OccType)) → as_array b ≡ p → filled (t.Array (Some m) x) b ≡ t.Array (Some m) x
+closed_by m x b h None is = filled_alone (Some m) x b is
+closed_by m x b h (Some parts) is = filled_both (Some m) parts.0 x parts.1 b is ∙ ap (t.Array (Some m)) (h parts.1)
+
+-- where nothing is filled in below, nothing is where the number of components is said
+pub closed_array : (u : OccType) (m : ℕ) (x b : OccType) → u ≡ t.Array (Some m) x → ((other : OccType) → filled x other ≡ x) → filled u b ≡ u
+closed_array u m x b is h = ap (λ (v : OccType). filled v b) is ∙ closed_by m x b h (as_array b) refl ∙ sym is
 
 pub ruleset filling_rules = (filled_both, filled_alone, filled_itself)

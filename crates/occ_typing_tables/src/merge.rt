@@ -36,8 +36,10 @@ fn is_closed(of: &OccType) -> bool
     ensures { IsTrue result → (other : SpecType) → spec_filled of.now other ≡ of.now }
 {
     match of {
-        OccType::Array(Some(_), inner) => is_closed(inner.get()),
-        OccType::Array(None, _) => false,
+        OccType::Array(count, inner) => match count {
+            Some(_) => is_closed(inner.get()),
+            None => false,
+        },
         _ => true,
     }
 }
