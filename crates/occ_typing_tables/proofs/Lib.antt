@@ -1,3 +1,4 @@
 pub mod Filling
 pub mod Judging
+pub mod Own
 pub mod Plain

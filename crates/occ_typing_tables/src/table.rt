@@ -2,11 +2,13 @@
 //! tables are cheap.
 #![tactic(auto, using(crate::proofs::Judging::judging_rules))]
 
-ghost use Rattle.std.specs.Prelude.{◌≡◌, ◌++◌, ◌∷◌, [], false, IfOk, OnOk, Some, map, true};
+ghost use Rattle.std.specs.Prelude.{◌≡◌, ◌++◌, ◌∷◌, [], false, IfOk, IsTrue, OnOk, Some, map, true};
 ghost use Rattle.std.specs.List.{list_any};
 ghost use Rattle.occ_typing_operands.specs.Settling.{int as spec_int, settled as spec_settled};
 ghost use Rattle.occ_typing_operands.specs.Operators.{all_faults, is_faulty as spec_is_faulty, kinds as spec_kinds};
 ghost use Rattle.occ_typing_tables.specs.Terms.{after_first as spec_after_first, all_settled as spec_all_settled, all_under as spec_all_under, alone as spec_alone, each_own_or_alone as spec_each_own_or_alone, each_under as spec_each_under, first_settled as spec_first_settled, fitted_or_alone as spec_fitted_or_alone, fitted_to as spec_fitted_to, is_faulty_settled, others_faults, own_or_alone as spec_own_or_alone, stands as spec_stands, settled_itself as spec_settled_itself, settled_so, settled_under as spec_settled_under, first_type as spec_first_type, items_type as spec_items_type, judged, judged_all, merged_all as spec_merged_all, merged_next as spec_merged_next, so_many as spec_so_many, table_alone as spec_table_alone, table_settled as spec_table_settled, table_type as spec_table_type, table_under as spec_table_under, under as spec_under, unless_faulty};
+ghost use Rattle.occ_typing_tables.specs.declared.term.Term.TheVariants as t;
+ghost use Rattle.occ_typing_tables.specs.inside.Own.{IfKnown, IsArrayOf, IsOwn, IsOwnFirst, IsOwnTable, as_it_stands as spec_as_it_stands};
 
 use super::counted::is_counted;
 use super::extent::arrayed;
@@ -14,8 +16,8 @@ use super::merge::merged;
 use super::placing::any_has_fault;
 use super::term::Term;
 use occ_base::{Code, Fault, Items, Name, Shared, report};
-use occ_types::{OccType, array_of, is_data};
-use occ_typing_operands::{Kind, fitted, int, is_faulty, known, known_as, settled, wanted};
+use occ_types::{OccType, array_of, is_data, same_type};
+use occ_typing_operands::{Kind, Known, fitted, int, is_faulty, known, known_as, settled, wanted};
 use std::alloc::{AllocError, Global};
 
 /// The one type of the items so far, with one item more.
@@ -243,15 +245,53 @@ fn is_untyped(term: &Term) -> bool
     matches!(term, Term::Single(Kind::Untyped(_)))
 }
 
+/// What is known of an operand of which no type is wanted, and whether it is settled to the same where that is wanted of it.
+#[derive(Drop)]
+struct OwnKind {
+    kind: Kind,
+    is_own: bool,
+}
+
 /// An operand that is no table, of which no type is wanted. INT takes memory, so it is made where one is free alone.
-fn single_alone(alloc: Global, kind: &Kind, faults: &mut Items<Fault>) -> Result<Kind, AllocError>
-    ensures kind { IfOk result (λ alone. alone ≡ (spec_settled spec_int kind.now).kind) }
+fn single_alone(
+    alloc: Global,
+    kind: &Kind,
+    faults: &mut Items<Fault>,
+) -> Result<OwnKind, AllocError>
+    ensures kind { IfOk result (λ alone. alone.kind ≡ (spec_settled spec_int kind.now).kind) }
+    ensures own { IfOk result (λ alone. IsTrue alone.is_own → IfKnown (λ v. IsOwn v (judged (t.Single kind.now))) alone.kind) }
     ensures faults { OnOk result (faults.new ≡ faults.old ++ (spec_settled spec_int kind.now).faults) }
 {
     match kind {
-        Kind::Faulty => Ok(Kind::Faulty),
-        Kind::Untyped(_) => settled(alloc, &int(alloc)?, kind, faults),
-        Kind::Known(found) => known_as(&found.of, found.value),
+        Kind::Faulty => Ok(OwnKind {
+            kind: Kind::Faulty,
+            is_own: false,
+        }),
+        Kind::Untyped(_) => Ok(OwnKind {
+            kind: settled(alloc, &int(alloc)?, kind, faults)?,
+            is_own: false,
+        }),
+        Kind::Known(found) => Ok(OwnKind {
+            kind: known_as(&found.of, found.value)?,
+            is_own: true,
+        }),
+    }
+}
+
+/// An operand of which no type is wanted, and whether it is settled to the same under its own.
+#[cycle(judge)]
+fn judged_alone(
+    alloc: Global,
+    term: &Term,
+    faults: &mut Items<Fault>,
+) -> Result<OwnKind, AllocError>
+    ensures kind { IfOk result (λ alone. alone.kind ≡ (spec_alone (judged term.now)).kind) }
+    ensures own { IfOk result (λ alone. IsTrue alone.is_own → IfKnown (λ v. IsOwn v (judged term.now)) alone.kind) }
+    ensures faults { OnOk result (faults.new ≡ faults.old ++ (spec_alone (judged term.now)).faults) }
+{
+    match term {
+        Term::Single(kind) => single_alone(alloc, kind, faults),
+        Term::Table(items) => table_judged(alloc, items.as_slice(), faults),
     }
 }
 
@@ -261,10 +301,8 @@ pub fn alone(alloc: Global, term: &Term, faults: &mut Items<Fault>) -> Result<Ki
     ensures kind { IfOk result (λ kind. kind ≡ (spec_alone (judged term.now)).kind) }
     ensures faults { OnOk result (faults.new ≡ faults.old ++ (spec_alone (judged term.now)).faults) }
 {
-    match term {
-        Term::Single(kind) => single_alone(alloc, kind, faults),
-        Term::Table(items) => table_alone(alloc, items.as_slice(), faults),
-    }
+    let OwnKind { kind, .. } = judged_alone(alloc, term, faults)?;
+    Ok(kind)
 }
 
 /// An operand of which a type is wanted.
@@ -306,6 +344,39 @@ fn each_settled(
     let mut found = Items::new(alloc);
     for term in terms {
         let settled = settled_under(alloc, term, of)?;
+        found.push(settled)?;
+    }
+    Ok(found)
+}
+
+/// What is known, as it is, without a fault.
+fn as_it_stands(alloc: Global, known: &Known) -> Result<Settled, AllocError>
+    ensures { IfOk result (λ settled. settled ≡ spec_as_it_stands known.now) }
+{
+    Ok(Settled {
+        faults: Items::new(alloc),
+        kind: known_as(&known.of, known.value)?,
+        is_faulty: false,
+    })
+}
+
+/// The same, where the type is that of the first operand alone, which is settled to the same under it.
+#[cycle(judge)]
+fn each_settled_after(
+    alloc: Global,
+    terms: &[Term],
+    first: &Known,
+) -> Result<Items<Settled>, AllocError>
+    requires { IsOwnFirst first.now (judged_all terms.now) }
+    ensures { IfOk result (λ found. found ≡ map (spec_settled_under first.now.of) (judged_all terms.now)) }
+{
+    let mut found = Items::new(alloc);
+    for term in terms {
+        let settled = if found.is_empty() {
+            as_it_stands(alloc, first)?
+        } else {
+            settled_under(alloc, term, &first.of)?
+        };
         found.push(settled)?;
     }
     Ok(found)
@@ -420,6 +491,29 @@ pub fn each_alone(
     Ok(kinds)
 }
 
+/// A table of items that were settled so under this type, which is not yet compared with what is wanted of it.
+#[cycle(judge)]
+fn whole_settled(
+    alloc: Global,
+    from_outside: bool,
+    items: &[Term],
+    settled: &[Settled],
+    of: &Shared<OccType>,
+) -> Result<Settled, AllocError>
+    requires { settled.now ≡ map (spec_settled_under of.now) (judged_all items.now) }
+    ensures { IfOk result (λ found. found ≡ spec_all_settled from_outside of.now (judged_all items.now)) }
+{
+    let is_faulty = any_settled_faulty(settled);
+    let mut faults = Items::new(alloc);
+    let kinds = fitted_or_alone(alloc, from_outside, settled, items, of, &mut faults)?;
+    let kind = joined(alloc, kinds.as_slice(), of, &mut faults)?;
+    Ok(Settled {
+        faults,
+        kind,
+        is_faulty,
+    })
+}
+
 /// A table, where the type of its items is wanted, from outside or by one of them. It is not yet compared with what is
 /// wanted of it.
 #[cycle(judge)]
@@ -435,38 +529,64 @@ fn all_settled(
         return many_settled(alloc, items.len(), of);
     }
     let settled = each_settled(alloc, items, of)?;
-    let is_faulty = any_settled_faulty(settled.as_slice());
-    let mut faults = Items::new(alloc);
-    let kinds = fitted_or_alone(
-        alloc,
-        from_outside,
-        settled.as_slice(),
-        items,
-        of,
-        &mut faults,
-    )?;
-    let kind = joined(alloc, kinds.as_slice(), of, &mut faults)?;
-    Ok(Settled {
-        faults,
-        kind,
-        is_faulty,
-    })
+    whole_settled(alloc, from_outside, items, settled.as_slice(), of)
 }
 
-/// A table, where the type of its items is wanted by one of them.
+/// A table whose items take the type of the first that is not free. Where that is the first of all, and is settled to the same
+/// under its own type, it is not judged again.
+#[cycle(judge)]
+fn settled_by(
+    alloc: Global,
+    items: &[Term],
+    first: &Known,
+    is_own: bool,
+) -> Result<Settled, AllocError>
+    requires { IsTrue is_own → IsOwnFirst first.now (judged_all items.now) }
+    ensures { IfOk result (λ found. found ≡ spec_all_settled false first.now.of (judged_all items.now)) }
+{
+    if !is_own {
+        return all_settled(alloc, false, items, &first.of);
+    }
+    let settled = each_settled_after(alloc, items, first)?;
+    whole_settled(alloc, false, items, settled.as_slice(), &first.of)
+}
+
+/// Whether what is known of a table is an array of this type.
+fn is_array_of(kind: &Kind, of: &OccType) -> bool
+    ensures { IsTrue result → IfKnown (IsArrayOf of.now) kind.now }
+{
+    let Kind::Known(found) = kind else {
+        return false;
+    };
+    match array_of(found.of.get()) {
+        Some((_, component)) => same_type(component.get(), of),
+        None => false,
+    }
+}
+
+/// A table, where the type of its items is wanted by the first that is not free. A faultless array of that type is settled to
+/// the same under its own.
 #[cycle(judge)]
 fn all_under(
     alloc: Global,
     items: &[Term],
-    of: &Shared<OccType>,
+    first: &Known,
+    is_own: bool,
     faults: &mut Items<Fault>,
-) -> Result<Kind, AllocError>
-    ensures kind { IfOk result (λ kind. kind ≡ (spec_all_under false of.now (judged_all items.now)).kind) }
-    ensures faults { OnOk result (faults.new ≡ faults.old ++ (spec_all_under false of.now (judged_all items.now)).faults) }
+) -> Result<OwnKind, AllocError>
+    requires { IsTrue is_own → IsOwnFirst first.now (judged_all items.now) }
+    ensures kind { IfOk result (λ alone. alone.kind ≡ (spec_all_under false first.now.of (judged_all items.now)).kind) }
+    ensures own { IfOk result (λ alone. IsTrue alone.is_own → IfKnown (IsOwnTable (judged_all items.now)) alone.kind) }
+    ensures faults { OnOk result (faults.new ≡ faults.old ++ (spec_all_under false first.now.of (judged_all items.now)).faults) }
 {
-    let found = all_settled(alloc, false, items, of)?;
-    report_again(alloc, found.faults.as_slice(), faults)?;
-    Ok(found.kind)
+    let Settled {
+        faults: reported,
+        kind,
+        is_faulty,
+    } = settled_by(alloc, items, first, is_own)?;
+    report_again(alloc, reported.as_slice(), faults)?;
+    let is_own = !is_faulty && reported.is_empty() && is_array_of(&kind, first.of.get());
+    Ok(OwnKind { kind, is_own })
 }
 
 /// The first item that is not free; if all are, an INT.
@@ -485,6 +605,26 @@ fn first_settled(
         }
     }
     known(&int(alloc)?, None)
+}
+
+/// The same, and whether it is the first of all and is settled to the same under its own type.
+#[cycle(judge)]
+fn first_judged(
+    alloc: Global,
+    items: &[Term],
+    faults: &mut Items<Fault>,
+) -> Result<OwnKind, AllocError>
+    ensures kind { IfOk result (λ alone. alone.kind ≡ (spec_first_settled (judged_all items.now)).kind) }
+    ensures own { IfOk result (λ alone. IsTrue alone.is_own → IfKnown (λ v. IsOwnFirst v (judged_all items.now)) alone.kind) }
+    ensures faults { OnOk result (faults.new ≡ faults.old ++ (spec_first_settled (judged_all items.now)).faults) }
+{
+    match items.first() {
+        Some(first) if !is_untyped(first) => judged_alone(alloc, first, faults),
+        _ => Ok(OwnKind {
+            kind: first_settled(alloc, items, faults)?,
+            is_own: false,
+        }),
+    }
 }
 
 /// What is reported of all but the first item that is not free, each by itself.
@@ -508,20 +648,43 @@ fn report_others(alloc: Global, items: &[Term], faults: &mut Items<Fault>) -> Re
 fn after_first(
     alloc: Global,
     items: &[Term],
-    first: &Kind,
+    first: &OwnKind,
     faults: &mut Items<Fault>,
-) -> Result<Kind, AllocError>
-    ensures kind { IfOk result (λ kind. kind ≡ (spec_after_first (judged_all items.now) first.now).kind) }
-    ensures faults { OnOk result (faults.new ≡ faults.old ++ (spec_after_first (judged_all items.now) first.now).faults) }
+) -> Result<OwnKind, AllocError>
+    requires { IsTrue first.now.is_own → IfKnown (λ v. IsOwnFirst v (judged_all items.now)) first.now.kind }
+    ensures kind { IfOk result (λ alone. alone.kind ≡ (spec_after_first (judged_all items.now) first.now.kind).kind) }
+    ensures own { IfOk result (λ alone. IsTrue alone.is_own → IfKnown (IsOwnTable (judged_all items.now)) alone.kind) }
+    ensures faults { OnOk result (faults.new ≡ faults.old ++ (spec_after_first (judged_all items.now) first.now.kind).faults) }
 {
-    match first {
-        Kind::Known(found) => all_under(alloc, items, &found.of, faults),
-        Kind::Untyped(_) => Ok(Kind::Faulty),
+    match &first.kind {
+        Kind::Known(found) => all_under(alloc, items, found, first.is_own, faults),
+        Kind::Untyped(_) => Ok(OwnKind {
+            kind: Kind::Faulty,
+            is_own: false,
+        }),
         Kind::Faulty => {
             report_others(alloc, items, faults)?;
-            Ok(Kind::Faulty)
+            Ok(OwnKind {
+                kind: Kind::Faulty,
+                is_own: false,
+            })
         }
     }
+}
+
+/// A table of which no type is wanted, and whether it is settled to the same under its own.
+#[cycle(judge)]
+fn table_judged(
+    alloc: Global,
+    items: &[Term],
+    faults: &mut Items<Fault>,
+) -> Result<OwnKind, AllocError>
+    ensures kind { IfOk result (λ alone. alone.kind ≡ (spec_table_alone (judged_all items.now)).kind) }
+    ensures own { IfOk result (λ alone. IsTrue alone.is_own → IfKnown (IsOwnTable (judged_all items.now)) alone.kind) }
+    ensures faults { OnOk result (faults.new ≡ faults.old ++ (spec_table_alone (judged_all items.now)).faults) }
+{
+    let first = first_judged(alloc, items, faults)?;
+    after_first(alloc, items, &first, faults)
 }
 
 /// A table of which no type is wanted.
@@ -534,8 +697,8 @@ pub(super) fn table_alone(
     ensures kind { IfOk result (λ kind. kind ≡ (spec_table_alone (judged_all items.now)).kind) }
     ensures faults { OnOk result (faults.new ≡ faults.old ++ (spec_table_alone (judged_all items.now)).faults) }
 {
-    let first = first_settled(alloc, items, faults)?;
-    after_first(alloc, items, &first, faults)
+    let OwnKind { kind, .. } = table_judged(alloc, items, faults)?;
+    Ok(kind)
 }
 
 /// A table of which this type is wanted, before it is compared with it.

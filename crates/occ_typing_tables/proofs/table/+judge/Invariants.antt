@@ -6,6 +6,9 @@ use Rattle.occ_typing_tables.proofs.table.+judge.Given as goal
 abbrev pub invariant-each_settled-loop-term : goal.invariant-each_settled-loop-term
 invariant-each_settled-loop-term l = l.found ++ map (settled_under l.of) (judged_all (drop l.term-index l.terms)) ≡ map (settled_under l.of) (judged_all l.terms)
 
+abbrev pub invariant-each_settled_after-loop-term : goal.invariant-each_settled_after-loop-term
+invariant-each_settled_after-loop-term l = l.found ++ map (settled_under l.first.of) (judged_all (drop l.term-index l.terms)) ≡ map (settled_under l.first.of) (judged_all l.terms)
+
 abbrev pub invariant-each_own_or_alone-loop-term : goal.invariant-each_own_or_alone-loop-term
 invariant-each_own_or_alone-loop-term l =
     (l.kinds ++ kinds (each_own_or_alone l.from_outside l.has_own l.settled (judged_all (drop l.term-index l.terms))) ≡ kinds (each_own_or_alone l.from_outside l.has_own l.initial.settled (judged_all l.terms)))
