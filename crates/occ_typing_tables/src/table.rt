@@ -353,11 +353,8 @@ fn each_settled(
 fn as_it_stands(alloc: Global, known: &Known) -> Result<Settled, AllocError>
     ensures { IfOk result (λ settled. settled ≡ spec_as_it_stands known.now) }
 {
-    Ok(Settled {
-        faults: Items::new(alloc),
-        kind: known_as(&known.of, known.value)?,
-        is_faulty: false,
-    })
+    let kind = known_as(&known.of, known.value)?;
+    Ok(settled_itself(Items::new(alloc), kind))
 }
 
 /// The same, where the type is that of the first operand alone, which is settled to the same under it.
