@@ -1,7 +1,7 @@
 //! What clashes in a PAR: the lines of the components that use one name, and the elements that they share.
 use super::declared::{is_replicator_of, specified_by};
 use super::mismatch::call;
-use super::numbers::{Constant, Part, constants, meeting, parts};
+use super::numbers::{Constant, Part, Reach, constants, meeting, parts};
 use super::rounds::{Rounds, common, elements, rounds_of};
 use super::spelling::is_reserved;
 use super::text::{
@@ -22,6 +22,8 @@ const ROUND_LIMIT: i64 = 256;
 /// Tells what clashes in a PAR, and shows the lines that do.
 pub fn clash(alloc: Global, place: Place<'_>, told: &mut Told) -> Result<(), AllocError> {
     if has(place.said, b":=") {
+        let name = shown(place.name);
+        told.say(format!(in alloc; "`{name}` is changed by two targets of this assignment")?);
         told.help(String::from_str(
             alloc,
             "all targets of one assignment are changed at once, so no two may be one",
@@ -29,7 +31,12 @@ pub fn clash(alloc: Global, place: Place<'_>, told: &mut Told) -> Result<(), All
         return Ok(());
     }
     let all = uses(alloc, place, place.name)?;
-    let picked = picked(alloc, place.code, all.as_slice())?;
+    let pair = if place.code == Code::U1 {
+        meeting_uses(alloc, place, all.as_slice())?
+    } else {
+        None
+    };
+    let picked = picked(alloc, place.code, all.as_slice(), pair)?;
     headline(alloc, place, picked.as_slice(), told)?;
     for one in &picked {
         let line = Numbered {
@@ -62,9 +69,68 @@ fn label(code: Code, one: Use) -> &'static str {
     }
 }
 
-/// The uses that are shown: one that changes, and the first of each other component.
-fn picked(alloc: Global, code: Code, all: &[Use]) -> Result<Vec<Use>, AllocError> {
+/// A use, and the parts that its line uses.
+#[derive(Drop)]
+struct Candidate {
+    one: Use,
+    reach: Reach,
+}
+
+/// Uses with the parts that their lines use.
+fn candidates(alloc: Global, place: Place<'_>, all: &[Use]) -> Result<Vec<Candidate>, AllocError> {
+    let known = constants(alloc, place.lines, place.number)?;
+    let mut found = Vec::new(alloc);
+    for one in all {
+        let said = place.lines.statement(one.number);
+        let reach = Reach::of(alloc, said, place.name, known.as_slice())?;
+        found.push(Candidate { one: *one, reach })?;
+    }
+    Ok(found)
+}
+
+/// The first use that changes what one of another component may use, and that one.
+fn meeting_uses(
+    alloc: Global,
+    place: Place<'_>,
+    all: &[Use],
+) -> Result<Option<(Use, Use)>, AllocError> {
+    let candidates = candidates(alloc, place, all)?;
+    for candidate in &candidates {
+        if candidate.one.deeds.changes
+            && let Some(other) = met(candidate, candidates.as_slice())
+        {
+            return Ok(Some((candidate.one, other)));
+        }
+    }
+    Ok(None)
+}
+
+/// The first use of another component that may use what one uses.
+fn met(candidate: &Candidate, all: &[Candidate]) -> Option<Use> {
+    for other in all {
+        if other.one.component != candidate.one.component
+            && candidate.reach.may_meet(&other.reach)
+        {
+            return Some(other.one);
+        }
+    }
+    None
+}
+
+/// The uses that are shown: two that meet, or one that changes, and the first of each other component.
+fn picked(
+    alloc: Global,
+    code: Code,
+    all: &[Use],
+    pair: Option<(Use, Use)>,
+) -> Result<Vec<Use>, AllocError> {
     let mut picked: Vec<Use> = Vec::new(alloc);
+    if let Some((one, other)) = pair {
+        picked.push(one)?;
+        picked.push(other)?;
+        picked.sort_by_key(|one| one.number)?;
+        return Ok(picked);
+    }
     if let Some(one) = all.iter().find(|one| code == Code::U1 && one.deeds.changes) {
         picked.push(*one)?;
     }

@@ -501,6 +501,9 @@ pub fn operands(alloc: Global, place: Place<'_>, told: &mut Told) -> Result<(), 
         Some((_, values)) => values,
         None => place.said,
     };
+    if has(said, b"<<") || has(said, b">>") {
+        return shifted(alloc, place, told, said);
+    }
     let mut last: Option<(&[u8], Typed<'_>)> = None;
     let mut rest = said;
     for _ in 0..said.len().min(WORD_LIMIT) {
@@ -526,6 +529,30 @@ pub fn operands(alloc: Global, place: Place<'_>, told: &mut Told) -> Result<(), 
     }
 }
 
+/// Tells that the count of a shift is no INT, or the type of what is shifted.
+fn shifted(
+    alloc: Global,
+    place: Place<'_>,
+    told: &mut Told,
+    said: &[u8],
+) -> Result<(), AllocError> {
+    let Some((front, count)) = split_once(said, b"<<").or(split_once(said, b">>")) else {
+        return Ok(());
+    };
+    let is_no_int = |typed: &Typed<'_>| typed.text != b"INT".as_slice();
+    if let Some(typed) = looks(place.lines, place.number, count).filter(is_no_int) {
+        let is = said_of(place, count, typed);
+        told.say(format!(in alloc; "the count of a shift has to be INT, and {is}")?);
+        told.mean_in(place, count, first_name(count));
+        return convert(alloc, place, told, b"INT", count, typed);
+    }
+    let front = front.trim_ascii();
+    match looks(place.lines, place.number, front) {
+        Some(typed) => lone_operand(alloc, place, told, front, typed),
+        None => Ok(()),
+    }
+}
+
 /// Tells that two operands are of two types.
 fn two_operands(
     alloc: Global,
@@ -546,7 +573,9 @@ fn lone_operand(
     typed: Typed<'_>,
 ) -> Result<(), AllocError> {
     let is = said_of(place, name, typed);
-    told.say(format!(in alloc; "{is}: an operator wants two operands of one type that it is for")?);
+    told.say(format!(in alloc;
+        "{is}, and does not go with its operator, or with the other operand"
+    )?);
     told.mean(place, name);
     Ok(())
 }
@@ -576,6 +605,9 @@ pub fn numbers(alloc: Global, place: Place<'_>, told: &mut Told) -> Result<(), A
     let wanted = item_count(targets, b',');
     let Some((name, actuals)) = call(values) else {
         let given = item_count(values, b',');
+        if wanted == given {
+            return Ok(());
+        }
         let (some, others) = (counted(wanted, "target"), counted(given, "value"));
         told.say(format!(in alloc; "{some} and {others}")?);
         return Ok(());

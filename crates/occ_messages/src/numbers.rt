@@ -2,10 +2,13 @@
 use super::declared::abbreviated;
 use super::text::{
     Lines, around_word, closed, column, first_word, is_skipped, is_word_byte, last_word, next_word,
-    number_of, split_once,
+    number_of, split_once, word_count,
 };
 use std::alloc::{AllocError, Global};
 use std::str;
+
+/// How many parts of one statement are told apart.
+const REACH_LIMIT: usize = 8;
 
 /// A name and its value.
 #[derive(Clone, Copy)]
@@ -241,6 +244,11 @@ impl Part {
         self.from.saturating_add(self.count)
     }
 
+    /// Whether two parts have an element, or something of one.
+    fn overlaps(self, other: Part) -> bool {
+        self.from.max(other.from) < self.end().min(other.end())
+    }
+
     /// The first element that two parts have whole, if there is one.
     pub fn meets(self, other: Part) -> Option<i64> {
         let first = self.from.max(other.from);
@@ -249,6 +257,35 @@ impl Part {
         } else {
             None
         }
+    }
+}
+
+/// The parts of an array that a statement uses, and whether these are all.
+#[derive(Drop)]
+pub struct Reach {
+    parts: Vec<Part>,
+    is_all: bool,
+}
+
+impl Reach {
+    /// What a statement uses of an array. Many parts are not told apart.
+    pub fn of(
+        alloc: Global,
+        said: &[u8],
+        name: &[u8],
+        known: &[Constant<'_>],
+    ) -> Result<Reach, AllocError> {
+        let parts = parts(alloc, said, name, known)?;
+        let is_all = parts.len() == word_count(said, name) && parts.len() <= REACH_LIMIT;
+        Ok(Reach { parts, is_all })
+    }
+
+    /// Whether one of them may be a part of one of others.
+    pub fn may_meet(&self, other: &Reach) -> bool {
+        if !self.is_all || !other.is_all {
+            return true;
+        }
+        self.parts.iter().any(|part| other.parts.iter().any(|there| part.overlaps(*there)))
     }
 }
 

@@ -6,8 +6,8 @@ use super::declared::{
 use super::mismatch::{counted, said_of};
 use super::similar::is_like;
 use super::text::{
-    Lines, Numbered, after_word, column, cut, first_word, has, is_skipped, item_count, next_item,
-    number_of, parent, split_once,
+    Lines, Numbered, after_word, column, cut, first_word, has, has_word, is_skipped, item_count,
+    next_item, number_of, parent, split_once,
 };
 use super::told::{Place, Told, shown};
 use bstr::BStr;
@@ -255,7 +255,7 @@ fn no_variant(
     if place.said.contains(&b'!')
         && let Some(line) = tag_line(place.lines, head, tag)
     {
-        return unparted(alloc, tag, line, told);
+        return unparted(alloc, place, tag, line, told);
     }
     let tags = tags(alloc, place.lines, head)?;
     let channel = shown(place.name);
@@ -400,6 +400,11 @@ pub fn no_channel(alloc: Global, place: Place<'_>, told: &mut Told) -> Result<()
         told.help(format!(in alloc;
             "`{name} ? t` reads the time; `{name} ? AFTER t` waits for a time"
         )?)
+    } else if has_word(place.said, b"AFTER") {
+        told.say(format!(in alloc;
+            "`{name}` is {text} (line {number}), and `AFTER` waits for a TIMER"
+        )?);
+        Ok(())
     } else {
         told.say(format!(in alloc; "`{name}` is {text} (line {number}), and no channel")?);
         Ok(())
@@ -421,17 +426,25 @@ pub fn is_tag(alloc: Global, place: Place<'_>, told: &mut Told) -> Result<(), Al
     let Some(line) = tag_line(place.lines, head, place.name) else {
         return Ok(());
     };
-    unparted(alloc, place.name, line, told)
+    unparted(alloc, place, place.name, line, told)
 }
 
-/// Tells that what follows a tag is not parted from it.
+/// Tells that a tag is input without CASE, or that what follows it is not parted from it.
 fn unparted(
     alloc: Global,
+    place: Place<'_>,
     tag: &[u8],
     line: Numbered<'_>,
     told: &mut Told,
 ) -> Result<(), AllocError> {
     let name = shown(tag);
+    if from_sign(place.said).starts_with(b"?") {
+        let channel = shown(channel_of(place));
+        told.say(format!(in alloc;
+            "`{name}` is a tag, and is input by `{channel} ? CASE {name}`"
+        )?);
+        return told.show(alloc, line, tag, "");
+    }
     told.say(format!(in alloc;
         "`{name}` is a tag, and no `;` stands between it and what follows"
     )?);

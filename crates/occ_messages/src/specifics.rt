@@ -1,7 +1,7 @@
 //! Better words for codes of which the line says which case it is.
 use super::declared::{abbreviated, head_name, is_replicator_of, specified_by, type_in};
 use super::mismatch::{actuals, assigned, call};
-use super::numbers::{constants, value};
+use super::numbers::{Reach, constants, value};
 use super::spelling::is_reserved;
 use super::text::{
     Numbered, WORD_LIMIT, around_word, closed, column, cut, first_word, has, has_word, is_skipped,
@@ -287,14 +287,19 @@ fn same_above<'a>(place: Place<'a>) -> Option<Numbered<'a>> {
 
 /// Shows the nearest abbreviation above that reads the name.
 pub fn abbreviation(alloc: Global, place: Place<'_>, told: &mut Told) -> Result<(), AllocError> {
-    match abbreviated_above(place) {
+    match abbreviated_above(alloc, place)? {
         Some(found) => told.show(alloc, found, place.name, "abbreviated here"),
         None => Ok(()),
     }
 }
 
-/// The nearest abbreviation above that reads the name.
-fn abbreviated_above<'a>(place: Place<'a>) -> Option<Numbered<'a>> {
+/// The nearest abbreviation above that reads a part of what the name stands for which the line may use.
+fn abbreviated_above<'a>(
+    alloc: Global,
+    place: Place<'a>,
+) -> Result<Option<Numbered<'a>>, AllocError> {
+    let known = constants(alloc, place.lines, place.number)?;
+    let reach = Reach::of(alloc, place.said, place.name, known.as_slice())?;
     let mut depth = column(place.line);
     for (at, line) in place.lines.before(place.number).iter().enumerate().rev() {
         if is_skipped(line) {
@@ -302,12 +307,17 @@ fn abbreviated_above<'a>(place: Place<'a>) -> Option<Numbered<'a>> {
         }
         let here = column(line);
         let number = number_of(at);
-        if here <= depth && has(line, b" IS ") && reads(place.lines.said(number), place.name) {
-            return Some(Numbered { number, line });
+        let said = place.lines.said(number);
+        if here <= depth
+            && has(line, b" IS ")
+            && reads(said, place.name)
+            && Reach::of(alloc, said, place.name, known.as_slice())?.may_meet(&reach)
+        {
+            return Ok(Some(Numbered { number, line }));
         }
         depth = depth.min(here);
     }
-    None
+    Ok(None)
 }
 
 /// Whether what a statement abbreviates has a name in it.

@@ -382,7 +382,12 @@ fn shape_hint(place: Place<'_>) -> Option<&'static str> {
         Some("a `:` closes a PROC, a FUNCTION, a PROTOCOL or a DATA TYPE, in the column of that")
     } else if is_equation(place) {
         Some(EQUALS)
-    } else if !said.is_empty() && first_word(said) == said && !is_reserved(said) {
+    } else if is_chosen(place) {
+        Some("an option, or a condition, has its process in a line under it, two blanks in")
+    } else if said.first().is_some_and(u8::is_ascii_alphabetic)
+        && first_word(said) == said
+        && !is_reserved(said)
+    {
         Some("a call has brackets, also where it is given nothing: `p ()`")
     } else if is_type(first_word(said.rsplit(|b| *b == b']').next().unwrap_or(said)))
         && !said.ends_with(b":")
@@ -392,6 +397,21 @@ fn shape_hint(place: Place<'_>) -> Option<&'static str> {
     } else {
         None
     }
+}
+
+/// Whether a word or a number alone is under an IF or a CASE, and has no line under it.
+fn is_chosen(place: Place<'_>) -> bool {
+    let is_under = parent(place.lines, place.number).is_some_and(|parent| matches!(
+        first_word(parent.line.trim_ascii()),
+        b"IF" | b"CASE"
+    ));
+    let has_lines = line_after(place.lines, place.number).is_some_and(|after| column(after.line)
+        > column(place.line));
+    is_under
+        && !has_lines
+        && !place.said.is_empty()
+        && first_word(place.said) == place.said
+        && !is_reserved(place.said)
 }
 
 /// Whether a line is under the head of a PROTOCOL.
