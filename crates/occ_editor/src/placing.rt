@@ -18,7 +18,7 @@ use std::alloc::{AllocError, Global};
 const SESSION: u32 = 0;
 
 /// After so many edits a journal is cut.
-const EDIT_LIMIT: usize = 64;
+const EDIT_LIMIT: usize = 8;
 
 /// Cuts the journal, if it is long. No file changes.
 fn cut(alloc: Global, board: &mut Board) -> Result<(), AllocError>
