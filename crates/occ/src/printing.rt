@@ -5,7 +5,7 @@ ghost use Rattle.std.specs.String.{string_bytes};
 
 use super::check::Findings;
 use occ_files_words::Checking;
-use occ_messages::{Format, Hiding, Message, hidden_by};
+use occ_messages::{Format, Hiding, Message, Quoted, hidden_by};
 use occ_messages_formats::{
     Tally, Verbosity, count_line, github_text, json_text, long_text, sarif_text, short_text,
 };
@@ -82,7 +82,7 @@ fn end(
 }
 
 /// Messages with their lines of the text. The reason of a code stands at the first message that has it. Of what was told of
-/// another line of a file only the place is told.
+/// another line of a file, with the same other lines, only the place is told.
 fn long_texts(alloc: Global, messages: &[Message], quiet: bool) -> Result<String, AllocError> {
     let mut text = String::new(alloc);
     let mut codes = Vec::new(alloc);
@@ -101,11 +101,23 @@ fn long_texts(alloc: Global, messages: &[Message], quiet: bool) -> Result<String
     Ok(text)
 }
 
-/// Whether one of the last messages has the words of this one, in its file.
+/// Whether one of the last messages has the words of this one, in its file, and shows the same other lines.
 fn is_repeated(told: &[Message], message: &Message) -> bool {
     told.iter().rev().take(REPEAT_LIMIT).any(|other| {
-        other.code == message.code && other.words == message.words && other.path == message.path
+        other.code == message.code
+            && other.words == message.words
+            && other.path == message.path
+            && are_same_lines(other.others.as_slice(), message.others.as_slice())
     })
+}
+
+/// Whether two messages show the same other lines.
+fn are_same_lines(some: &[Quoted], others: &[Quoted]) -> bool {
+    some.len() == others.len()
+        && some
+            .iter()
+            .zip(others.iter())
+            .all(|(one, other)| one.number == other.number)
 }
 
 /// What is said after all messages, in words for people.

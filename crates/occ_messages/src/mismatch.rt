@@ -573,9 +573,12 @@ fn lone_operand(
     typed: Typed<'_>,
 ) -> Result<(), AllocError> {
     let is = said_of(place, name, typed);
-    told.say(format!(in alloc;
-        "{is}, and does not go with its operator, or with the other operand"
-    )?);
+    let behind = after_word(place.said, b"NOT").unwrap_or(&[]);
+    told.say(if first_word(behind.trim_ascii()) == name && is_number(typed.text) {
+        format!(in alloc; "NOT is for BOOL, and {is}: `~` turns the bits of a number")?
+    } else {
+        format!(in alloc; "{is}, and does not go with its operator, or with the other operand")?
+    });
     told.mean(place, name);
     Ok(())
 }
