@@ -1,12 +1,12 @@
 //! What clashes in a PAR: the lines of the components that use one name, and the elements that they share.
 use super::declared::{is_replicator_of, specified_by};
-use super::mismatch::call;
+use super::mismatch::{assigned, call};
 use super::numbers::{Constant, Part, Reach, constants, meeting, parts};
 use super::rounds::{Rounds, common, elements, rounds_of};
 use super::spelling::is_reserved;
 use super::text::{
     Lines, Numbered, after_word, closed, column, has, has_word, is_skipped, last_word, next_item,
-    next_word, number_of, split_once,
+    next_word, number_of, split_once, word_count,
 };
 use super::told::{Place, Told, shown};
 use super::uses::{Use, is_of, uses};
@@ -23,7 +23,14 @@ const ROUND_LIMIT: i64 = 256;
 pub fn clash(alloc: Global, place: Place<'_>, told: &mut Told) -> Result<(), AllocError> {
     if has(place.said, b":=") {
         let name = shown(place.name);
-        told.say(format!(in alloc; "`{name}` is changed by two targets of this assignment")?);
+        let targets = assigned(place.said).map_or(&[] as &[u8], |(targets, _)| targets);
+        told.say(if mentions(targets, place.name) > 1 {
+            format!(in alloc; "`{name}` is changed by two targets of this assignment")?
+        } else {
+            format!(in alloc;
+                "`{name}` is changed by one target of this assignment, and read by another"
+            )?
+        });
         told.help(String::from_str(
             alloc,
             "all targets of one assignment are changed at once, so no two may be one",
@@ -82,7 +89,12 @@ fn candidates(alloc: Global, place: Place<'_>, all: &[Use]) -> Result<Vec<Candid
     let mut found = Vec::new(alloc);
     for one in all {
         let said = place.lines.statement(one.number);
-        let reach = Reach::of(alloc, said, place.name, known.as_slice())?;
+        let known = if is_mixed_call(place, *one) {
+            &[]
+        } else {
+            known.as_slice()
+        };
+        let reach = Reach::of(alloc, said, place.name, known)?;
         found.push(Candidate { one: *one, reach })?;
     }
     Ok(found)
@@ -286,6 +298,9 @@ fn components<'a>(
     let [one, two, ..] = picked else {
         return Ok(None);
     };
+    if is_mixed_call(place, *one) || is_mixed_call(place, *two) {
+        return Ok(None);
+    }
     match shared_part(alloc, place, *one, *two, known)? {
         Some(element) => {
             let name = shown(place.name);
@@ -293,6 +308,12 @@ fn components<'a>(
         }
         None => shared_round(alloc, place, *one, *two, known),
     }
+}
+
+/// Whether a line is a call that is given several parts of what is named: which of them it changes, its line does not say.
+fn is_mixed_call(place: Place<'_>, one: Use) -> bool {
+    let said = place.lines.statement(one.number);
+    call(said).is_some() && word_count(said, place.name) > 1
 }
 
 /// Which element two lines share in the rounds around them, or by selectors that are written alike.
@@ -354,11 +375,28 @@ fn same_selectors(
     let name = shown(place.name);
     let a = selectors(place.lines.statement(one.number), place.name);
     let b = selectors(place.lines.statement(two.number), place.name);
-    if a.is_empty() || a != b {
+    if a.is_empty() || a != b || !mean_the_same(place.lines, one.number, two.number, a) {
         return Ok(None);
     }
     let selectors = shown(a);
     Ok(Some(format!(in alloc; "both have `{name}{selectors}`")?))
+}
+
+/// Whether each name among selectors is specified in one line for both lines.
+fn mean_the_same(lines: Lines<'_>, one: u32, two: u32, selectors: &[u8]) -> bool {
+    let mut rest = selectors;
+    for _ in 0..selectors.len() {
+        let Some((word, more)) = next_word(rest) else {
+            break;
+        };
+        rest = more;
+        let first = specified_by(lines, one, word).map(|found| found.number);
+        let second = specified_by(lines, two, word).map(|found| found.number);
+        if first != second {
+            return false;
+        }
+    }
+    true
 }
 
 /// The selectors after the first mention of a name.
@@ -544,10 +582,27 @@ pub fn actuals(alloc: Global, place: Place<'_>, told: &mut Told) -> Result<(), A
         told.show(alloc, head, called, "")?;
     }
     if mentions(actuals, place.name) < 2 {
+        if word_count(actuals, place.name) > 1 {
+            return given_and_read(alloc, place, called, told);
+        }
         given_once(alloc, place, called, told)
     } else {
         given_twice(alloc, place, actuals, told)
     }
+}
+
+/// Tells that what is given to a call is read in another of its actuals.
+fn given_and_read(
+    alloc: Global,
+    place: Place<'_>,
+    called: &[u8],
+    told: &mut Told,
+) -> Result<(), AllocError> {
+    let (name, called) = (shown(place.name), shown(called));
+    told.say(format!(in alloc;
+        "`{name}` is given to `{called}`, and another actual of this call reads it"
+    )?);
+    Ok(())
 }
 
 /// Tells that the body of what is called uses what it is given.

@@ -130,6 +130,14 @@ fn wants_int(
     convert(alloc, place, told, b"INT", expression, typed)
 }
 
+/// Whether an expression is a character alone.
+fn is_character(expression: &[u8]) -> bool {
+    expression.len() > 2
+        && expression.starts_with(b"'")
+        && expression.ends_with(b"'")
+        && !expression.contains(&b' ')
+}
+
 /// Says how a number is converted.
 fn convert(
     alloc: Global,
@@ -144,12 +152,16 @@ fn convert(
     }
     let expression = expression.trim_ascii();
     let (wanted, said) = (shown(wanted), place.shown(expression));
-    if is_simple(expression) {
+    let name = first_name(expression);
+    if is_simple(expression) || is_character(expression) {
         told.help(format!(in alloc; "write `{wanted} {said}`, which converts it")?)
     } else if typed.text == b"BYTE".as_slice() {
-        let name = place.shown(first_name(expression));
+        if !name.first().is_some_and(u8::is_ascii_alphabetic) {
+            return Ok(());
+        }
+        let name = place.shown(name);
         told.help(format!(in alloc;
-            "write `{wanted} {name}` for `{name}`, and so for each operand"
+            "write `({wanted} {name})` for `{name}`, and so for each name of a BYTE"
         )?)
     } else {
         told.help(format!(in alloc; "write `{wanted} ({said})`, which converts it")?)
@@ -455,7 +467,11 @@ fn one_actual(
     told.say(format!(in alloc; "the formal `{name}` is {text} (line {number}), and {is}")?);
     let behind = split_once(place.said, b"(").map_or(place.said, |(_, inside)| inside);
     told.mean_in(place, behind, first_name(actual));
-    convert(alloc, place, told, wants, actual, typed)
+    if wanted.text.starts_with(b"VAL") {
+        convert(alloc, place, told, wants, actual, typed)
+    } else {
+        Ok(())
+    }
 }
 
 /// The subscripts of a line.
@@ -505,6 +521,7 @@ pub fn operands(alloc: Global, place: Place<'_>, told: &mut Told) -> Result<(), 
         return shifted(alloc, place, told, said);
     }
     let mut last: Option<(&[u8], Typed<'_>)> = None;
+    let mut found = 0usize;
     let mut rest = said;
     for _ in 0..said.len().min(WORD_LIMIT) {
         let Some((word, more)) = next_word(rest) else {
@@ -522,11 +539,19 @@ pub fn operands(alloc: Global, place: Place<'_>, told: &mut Told) -> Result<(), 
             return two_operands(alloc, one, two, told);
         }
         last = Some((word, typed));
+        found = found.saturating_add(1);
     }
     match last {
-        Some((name, typed)) => lone_operand(alloc, place, told, name, typed),
-        None => Ok(()),
+        Some((name, typed)) if found == 1 && !compares(said) => {
+            lone_operand(alloc, place, told, name, typed)
+        }
+        _ => Ok(()),
     }
+}
+
+/// Whether something is compared.
+fn compares(said: &[u8]) -> bool {
+    [b'<', b'>', b'='].iter().any(|b| said.contains(b))
 }
 
 /// Tells that the count of a shift is no INT, or the type of what is shifted.

@@ -325,6 +325,7 @@ fn each_item(
     given: &[u8],
 ) -> Result<(), AllocError> {
     let (mut texts, mut rest) = (wanted, given);
+    let mut number = 0usize;
     for _ in 0..given.len() {
         let (Some((text, others)), Some((item, more))) = (
             next_item(texts, b';'),
@@ -332,12 +333,26 @@ fn each_item(
         ) else {
             break;
         };
-        if !told.is_said() {
-            one_item(alloc, place, told, text, item)?;
+        number = number.saturating_add(1);
+        if !told.is_said() && text != item {
+            let which = if number == 1 && more.is_empty() {
+                0
+            } else {
+                number
+            };
+            one_item(alloc, place, told, text, Item { item, rest, which })?;
         }
         (texts, rest) = (others, more);
     }
     Ok(())
+}
+
+/// An item of a message, with those after it, and the how manieth it is; 0 where it is the only one.
+#[derive(Clone, Copy)]
+struct Item<'a> {
+    item: &'a [u8],
+    rest: &'a [u8],
+    which: usize,
 }
 
 /// Tells that an item has another type than is wanted, if so it is.
@@ -346,8 +361,9 @@ fn one_item(
     place: Place<'_>,
     told: &mut Told,
     wanted: &[u8],
-    item: &[u8],
+    given: Item<'_>,
 ) -> Result<(), AllocError> {
+    let Item { item, rest, which } = given;
     let (what, text, given) = match (counts(wanted), counts(item)) {
         (Some(text), Some(count)) => ("the count before `::` has to be", text, count),
         (None, None) => ("carries", wanted, item),
@@ -360,8 +376,13 @@ fn one_item(
         return Ok(());
     }
     let (text, is) = (shown(text), said_of(place, given, typed));
-    told.mean_in(place, from_sign(place.said), first_word(given));
-    if what == "carries" {
+    told.mean_in(place, rest, first_word(given));
+    if what == "carries" && which > 0 {
+        let channel = shown(channel_of(place));
+        told.say(format!(in alloc;
+            "item {which} of what `{channel}` carries is {text}, and {is}"
+        )?);
+    } else if what == "carries" {
         let channel = shown(channel_of(place));
         told.say(format!(in alloc; "`{channel}` carries {text}, and {is}")?);
     } else {

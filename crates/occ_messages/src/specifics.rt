@@ -202,14 +202,14 @@ pub fn unfinished(alloc: Global, place: Place<'_>, told: &mut Told) -> Result<()
     let last = last_part(place.said);
     let end = shown(last);
     match line_after(place.lines, place.number) {
-        Some(next) => {
+        Some(next) if column(next.line) <= column(place.line) => {
             let number = next.number;
             told.say(format!(in alloc;
                 "what comes after `{end}` is missing, or line {number} is not as far in as this line"
             )?);
             told.show_start(alloc, next)
         }
-        None => {
+        _ => {
             told.say(format!(in alloc; "what comes after `{end}` is missing")?);
             Ok(())
         }

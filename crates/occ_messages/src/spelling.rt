@@ -189,6 +189,7 @@ fn literal(alloc: Global, place: Place<'_>, told: &mut Told) -> Result<(), Alloc
     let words = match from {
         [b'\'', b'*', b'\'', ..] => "a star is written `**` in a character and in a string",
         [b'\'', b'*', ..] | [b'\'', _, b'\'', ..] | [b'"', ..] => return Ok(()),
+        [b'\'', b'\\', ..] => "`*` and no backslash stands before n, t and the like: '*n'",
         _ => "'x' is one character; a string stands in double quotes: \"abc\"",
     };
     told.say(String::from_str(alloc, words)?);
@@ -321,7 +322,9 @@ fn segment_hint(said: &[u8]) -> Option<&'static str> {
 fn ending_hint(said: &[u8]) -> Option<&'static str> {
     let first = first_word(said);
     let specifies = first == b"VAL".as_slice() || has_word(said, b"IS") || is_type(first);
-    if specifies && !said.ends_with(b":") {
+    if has_word(said, b"FUNCTION") {
+        Some("the head of a FUNCTION is `T, .. FUNCTION f (VAL T x, ..)`: its formals are VAL")
+    } else if specifies && !said.ends_with(b":") {
         Some("a specification ends in `:`")
     } else if has(said, b":=") && is_called(said, first) {
         Some("a subscript stands in square brackets: `a[i]`")
@@ -373,7 +376,7 @@ pub fn after_assignment(said: &[u8]) -> &[u8] {
 fn shape_hint(place: Place<'_>) -> Option<&'static str> {
     let said = place.said;
     if said == b"ELSE".as_slice() {
-        Some("an IF has no ELSE: its last condition is `TRUE`")
+        Some(else_hint(place))
     } else if said == b"VALOF".as_slice() {
         Some(valof_hint(place))
     } else if said == b"CASE".as_slice() && !is_under_protocol(place) {
@@ -384,6 +387,8 @@ fn shape_hint(place: Place<'_>) -> Option<&'static str> {
         Some(EQUALS)
     } else if is_chosen(place) {
         Some("an option, or a condition, has its process in a line under it, two blanks in")
+    } else if let Some(words) = head_hint(place) {
+        Some(words)
     } else if said.first().is_some_and(u8::is_ascii_alphabetic)
         && first_word(said) == said
         && !is_reserved(said)
@@ -396,6 +401,37 @@ fn shape_hint(place: Place<'_>) -> Option<&'static str> {
         Some("a declaration ends in `:`")
     } else {
         None
+    }
+}
+
+/// What is wrong with an ELSE, by what it stands under or behind.
+fn else_hint(place: Place<'_>) -> &'static str {
+    let above = parent(place.lines, place.number).map_or(
+        &[] as &[u8],
+        |line| line.line.trim_ascii(),
+    );
+    if has(above, b"?") {
+        "an input with CASE has no ELSE: each of its lines has a tag"
+    } else {
+        match first_word(above) {
+            b"IF" => "an IF has no ELSE: its last condition is `TRUE`",
+            b"ALT" | b"PRI" => "an ALT has no ELSE: a guard that is always ready is `TRUE & SKIP`",
+            _ =>
+                "an ELSE is the last option of a `CASE`, and stands in the column of the other options",
+        }
+    }
+}
+
+/// What stands under the head of a PROTOCOL, a DATA TYPE or an ALT, where a word alone stands there.
+fn head_hint(place: Place<'_>) -> Option<&'static str> {
+    let above = parent(place.lines, place.number)?.line.trim_ascii();
+    if first_word(place.said) != place.said || is_reserved(place.said) {
+        return None;
+    }
+    match first_word(above) {
+        b"PROTOCOL" => Some("under the head of a PROTOCOL stands `CASE`, and under that its tags"),
+        b"ALT" => Some("a guard is an input, or a condition, `&`, and an input or SKIP"),
+        _ => None,
     }
 }
 
