@@ -89,12 +89,11 @@ fn candidates(alloc: Global, place: Place<'_>, all: &[Use]) -> Result<Vec<Candid
     let mut found = Vec::new(alloc);
     for one in all {
         let said = place.lines.statement(one.number);
-        let known = if is_mixed_call(place, *one) {
-            &[]
+        let reach = if is_mixed_call(place, *one) {
+            Reach::of(alloc, said, place.name, &[])?
         } else {
-            known.as_slice()
+            Reach::of(alloc, said, place.name, known.as_slice())?
         };
-        let reach = Reach::of(alloc, said, place.name, known)?;
         found.push(Candidate { one: *one, reach })?;
     }
     Ok(found)
