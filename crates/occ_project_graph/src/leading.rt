@@ -1,9 +1,11 @@
 //! The rows of a graph where edges lead elsewhere from a node that was there.
 ghost use Rattle.occ_project_graph.specs.Graph.{is_among, reaches, targets as spec_targets};
 ghost use Rattle.occ_project_graph.specs.inside.Leading.{later_row, later_rows, nodes_before, nodes_behind};
-ghost use Rattle.std.specs.Prelude.{◌≡◌, ◌<◌, ◌++◌, ℕ, IfOk, OnOk, false, get_or, length, map, replicate, slice_set};
+ghost use Rattle.occ_project_graph.specs.inside.Numbering.{graph_by, indexed};
+ghost use Rattle.std.specs.Prelude.{◌≡◌, ◌<◌, ◌++◌, ℕ, IfOk, OnOk, get_or, length, map, slice_set};
 
 use super::adding::{add_times, count_of};
+use super::reaching::no_marks;
 use super::search::{is_marked, number_at, search, targets as row};
 use sqlite_items::Items;
 use std::alloc::{AllocError, Global};
@@ -116,19 +118,56 @@ pub fn replaced(rows: &mut Vec<Items<usize>>, node: usize, row: Items<usize>) ->
     mem::replace(&mut rows[node], row)
 }
 
-/// No mark, so many times.
-fn no_marks(alloc: Global, count: usize) -> Result<Vec<bool>, AllocError>
-    ensures { IfOk result (λ marks. marks.items ≡ replicate count false) }
-{
-    Ok(vec![in alloc; false; count]?)
-}
-
 /// Whether a node reaches itself.
 pub fn is_reached(alloc: Global, graph: &[Items<usize>], node: usize) -> Result<bool, AllocError>
     requires { node < length graph.now }
     ensures { IfOk result (λ is. is ≡ reaches graph.now node node) }
 {
     let base = no_marks(alloc, graph.len())?;
-    let marks = search(alloc, graph, base.as_slice(), node)?;
-    Ok(is_marked(marks.as_slice(), node))
+    let seen = search(alloc, graph, base.as_slice(), node)?;
+    Ok(is_marked(seen.marks.as_slice(), node))
+}
+
+/// The indices of the nodes of these numbers.
+fn indices_of(alloc: Global, indices: &[usize], nodes: &[usize]) -> Result<Items<usize>, AllocError>
+    ensures { IfOk result (λ found. found ≡ indexed indices.now nodes.now) }
+{
+    let mut found = Items::from_vec(Vec::with_capacity(alloc, nodes.len())?);
+    for node in nodes {
+        found.push(number_at(indices, *node))?;
+    }
+    Ok(found)
+}
+
+/// The edges of a graph by indices.
+fn edges_by(
+    alloc: Global,
+    numbers: &[usize],
+    indices: &[usize],
+    edges: &[Items<usize>],
+) -> Result<Vec<Items<usize>>, AllocError>
+    ensures { IfOk result (λ rows. rows.items ≡ graph_by numbers.now indices.now edges.now) }
+{
+    let mut rows = Vec::with_capacity(alloc, numbers.len())?;
+    for number in numbers {
+        rows.push(indices_of(alloc, indices, row(edges, *number))?)?;
+    }
+    Ok(rows)
+}
+
+/// The same where edges lead from the node at an index to these.
+pub fn later_edges(
+    alloc: Global,
+    numbers: &[usize],
+    indices: &[usize],
+    edges: &[Items<usize>],
+    node: usize,
+    targets: &[usize],
+) -> Result<Vec<Items<usize>>, AllocError>
+    requires { node < length numbers.now }
+    ensures { IfOk result (λ rows. rows.items ≡ slice_set (graph_by numbers.now indices.now edges.now) node targets.now) }
+{
+    let mut rows = edges_by(alloc, numbers, indices, edges)?;
+    rows[node] = Items::from_slice(alloc, targets)?;
+    Ok(rows)
 }

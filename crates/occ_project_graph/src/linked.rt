@@ -9,7 +9,7 @@ ghost use Rattle.std.specs.Prelude.{◌≡◌, ◌<◌, ◌≤◌, ◌++◌, ◌
 use super::adding::{lead, lead_no_more, put_found, put_rows};
 use super::circles::find_rests;
 use super::joining::{lead_rests, led_rows, marked_numbers};
-use super::leading::{both, is_reached, numbers_of, replaced, rows_later};
+use super::leading::{both, is_reached, later_edges, numbers_of, replaced, rows_later};
 use super::nodes::Nodes;
 use super::numbering::{first_numbers, insert_node, numbers_then, push_within};
 use super::resting::{add_rests, is_one};
@@ -365,5 +365,30 @@ impl Linked {
                 Err(refused)
             }
         }
+    }
+
+    /// The same of any node, where all that nodes rest on is found anew.
+    pub fn lead_anew(
+        &mut self,
+        alloc: Global,
+        node: usize,
+        targets: &[usize],
+    ) -> Result<(), AllocError>
+        requires node { node < length self.old }
+        requires whole { IsWhole self.old }
+        requires within { (v : ℕ) → is_among targets.now v ≡ true → v < length self.old }
+        ensures ok { OnOk result (self.new ≡ slice_set self.old node targets.now) }
+        ensures err { OnErr result (self.new ≡ self.old) }
+    {
+        let edges = later_edges(
+            alloc,
+            self.numbers.as_slice(),
+            self.indices.as_slice(),
+            self.edges.as_slice(),
+            node,
+            targets,
+        )?;
+        *self = Linked::of(alloc, edges)?;
+        Ok(())
     }
 }

@@ -600,7 +600,7 @@ impl Graph {
         Ok(alike)
     }
 
-    /// The same, where its readers are few, and at most one of them uses others than before, and stands in no circle.
+    /// The same, where its readers are few, and at most one of them uses others than before.
     fn set_leading(
         &mut self,
         alloc: Global,

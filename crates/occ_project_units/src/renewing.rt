@@ -1,5 +1,5 @@
 //! Puts a file where one of its name is, if all its readers read and use the same as before. Else nothing is changed.
-ghost use Rattle.occ_project_graph.specs.Graph.{is_among as spec_is_among};
+ghost use Rattle.occ_project_graph.specs.Graph.{IsWhole, is_among as spec_is_among};
 ghost use Rattle.occ_project.specs.Reads.{index as spec_index};
 ghost use Rattle.occ_project_units.specs.Along.{name_at};
 ghost use Rattle.occ_project_units.specs.Indices.{graph_of, readers_at as spec_readers_at};
@@ -187,7 +187,7 @@ fn first_other(
 }
 
 /// Lets edges lead from the one of the files at these indices that uses others than before to these, if there is one. It says whether
-/// that is done, which it is if there is one at most, and it stands in no circle. Else nothing is changed.
+/// that is done, which it is if there is one at most. Else nothing is changed.
 fn lead_other(
     alloc: Global,
     project: &Project,
@@ -198,6 +198,7 @@ fn lead_other(
 ) -> Result<bool, AllocError>
     requires within { (p : ℕ) → spec_is_among indices.now p ≡ true → p < length project.now }
     requires len { length links.old ≡ length project.now }
+    requires whole { IsWhole links.old }
     requires found { length found.now ≡ length indices.now }
     ensures led { IfOk result (λ done. done ≡ true → IsLed project.now facts.now indices.now found.now links.old links.new) }
     ensures other { IfOk result (λ done. done ≡ false → links.new ≡ links.old) }
@@ -213,7 +214,10 @@ fn lead_other(
     }
     let names = found[place].get().uses.get().as_slice();
     let targets = indices_of(alloc, project, 0, None, names)?;
-    links.lead_to(alloc, indices[place], targets.as_slice())
+    if !links.lead_to(alloc, indices[place], targets.as_slice())? {
+        links.lead_anew(alloc, indices[place], targets.as_slice())?;
+    }
+    Ok(true)
 }
 
 /// Finds what is known of the files at these indices after an edit, and lets edges lead from the one that uses others than before. If
@@ -228,6 +232,7 @@ fn lead_facts(
     requires within { (p : ℕ) → spec_is_among indices.now p ≡ true → p < length project.now }
     requires len { length facts.old.items ≡ length project.now }
     requires links { length links.old ≡ length project.now }
+    requires whole { IsWhole links.old }
     requires others { (p : ℕ) → p < length project.now → spec_is_among indices.now p ≡ true ⊎ slice_get facts.old.items p ≡ Some (spec_facts_of project.now (name_at project.now p)) }
     ensures facts { IfOk result (λ done. done ≡ true → facts.new.items ≡ spec_all_facts project.now) }
     ensures led { IfOk result (λ done. done ≡ true → IsLed project.now facts.old.items indices.now (map (λ index. spec_facts_of project.now (name_at project.now index)) indices.now) links.old links.new) }
@@ -251,7 +256,7 @@ fn lead_facts(
 }
 
 /// Puts a file in the place of the one of its name, which the files at these indices read, with what is then known of them, if one of
-/// these at most uses others than before, and stands in no circle. Else nothing is changed.
+/// these at most uses others than before. Else nothing is changed.
 pub fn renew_leading(
     alloc: Global,
     project: &mut Project,

@@ -3,8 +3,8 @@ use Rattle.occ_project.specs.declared.reads.Read.{Read}
 use Rattle.occ_project_units.specs.Project.{file_of}
 use Rattle.occ_project_units.proofs.Leading.{led_graph, still_reading}
 use Rattle.occ_project_units.proofs.Renewed.{after_long, after_others, after_within, back_is, back_placed, still_long}
-use Rattle.occ_project_graph.specs.Graph.{Graph}
-use Rattle.occ_project_units.proofs.Edges.{graph_long}
+use Rattle.occ_project_graph.specs.Graph.{Graph, IsWhole}
+use Rattle.occ_project_units.proofs.Edges.{graph_long, whole}
 use Rattle.occ_project_units.specs.Along.{name_at}
 use Rattle.occ_project_units.specs.inside.Keeping.{IsLed, facts_of}
 use Rattle.occ_project_units.proofs.renewing.renew_leading.Goals as goal
@@ -52,3 +52,6 @@ returns-in-Err-clause-err c = (
   back_is c.args.project.now c.replace.new.self c.replace-in-Err.new.self c.args.file c.in_ok-before.before c.args.index c.requires.project c.requires.index c.replace.ensures (c.in_ok-before.ensures ∙ ap (λ (f : Read). file_of c.args.project.now f.name) c.get.ensures) c.replace-in-Err.ensures,
   c.in-Err.ensures.err,
 )
+
+pub lead_facts-requires-clause-whole : goal.lead_facts-requires-clause-whole
+lead_facts-requires-clause-whole c = subst IsWhole (sym c.requires.links) (whole c.args.project.now)
