@@ -10,6 +10,7 @@ pub mod Settled
 pub mod Rests
 pub mod Stands
 pub mod Zipped
+pub mod Following
 pub mod Nexts
 pub mod Shows
 pub mod Edits

@@ -6,3 +6,4 @@ pub mod Ready
 pub mod Revisions
 pub mod Touched
 pub mod Likeness
+pub mod Following

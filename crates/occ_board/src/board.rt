@@ -21,7 +21,7 @@ use super::base::{Base, Cut};
 use super::cached::Cached;
 use super::caching::unhand;
 use super::comparing::is_alike_job;
-use super::copying::{copied_files, copied_job};
+use super::copying::copied_job;
 use super::entry::{Edit, EditFault, Entry};
 use super::expanding::count_expanded;
 use super::flags::{Flags, settle_cached};
@@ -39,8 +39,8 @@ use occ_base::{FileName, Items, Shared};
 use occ_check::{Job, Outcome, check};
 use occ_forms::{Source, prepare, source_law};
 use occ_lines::{TextFault, text_fault};
-use occ_project_units::Graph;
 use occ_project_units::laws::put_law;
+use occ_project_units::{Graph, Project};
 use std::alloc::{AllocError, Global};
 use std::marker::Model;
 use std::mem;
@@ -143,7 +143,7 @@ impl Board {
         Board {
             base: Base {
                 number: 0,
-                files: Items::new(alloc),
+                files: Project::new(alloc),
             },
             journal: Vec::new(alloc),
             cached: Cached::new(alloc),
@@ -522,12 +522,11 @@ impl Board {
         ensures err { OnErr result (self.new ≡ self.old) }
     {
         base_law();
-        let files = copied_files(alloc, self.graph.project().files())?;
-        let number = self.number() as u32;
-        self.base = Base { number, files };
+        self.base
+            .follow(alloc, self.graph.project(), self.journal.as_slice())?;
         let entries = mem::replace(&mut self.journal, Vec::new(alloc));
         Ok(Cut {
-            number,
+            number: self.base.number,
             entries: Items::from_vec(entries),
         })
     }

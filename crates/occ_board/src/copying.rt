@@ -2,7 +2,7 @@
 ghost use Rattle.std.specs.Prelude.{◌≡◌, IfOk};
 
 use super::base::Base;
-use occ_base::{Items, Shared};
+use occ_base::Items;
 use occ_check::{Job, Used, UsedUnit};
 use occ_project::{Read, Reads};
 use occ_project_units::share;
@@ -19,24 +19,13 @@ fn copied_reads(alloc: Global, reads: &[Read]) -> Result<Reads, AllocError>
     Ok(copies)
 }
 
-/// The files of a project, which share their texts.
-pub fn copied_files(alloc: Global, files: &[Shared<Read>]) -> Result<Reads, AllocError>
-    ensures { IfOk result (λ copies. copies ≡ files.now) }
-{
-    let mut copies = Items::from_vec(Vec::with_capacity(alloc, files.len())?);
-    for file in files {
-        copies.push(share(file.get())?)?;
-    }
-    Ok(copies)
-}
-
 /// The same base, which shares its texts.
 pub fn copied_base(alloc: Global, base: &Base) -> Result<Base, AllocError>
     ensures { IfOk result (λ copy. copy ≡ base.now) }
 {
     Ok(Base {
         number: base.number,
-        files: copied_reads(alloc, base.files.as_slice())?,
+        files: base.files.share(alloc)?,
     })
 }
 

@@ -285,22 +285,22 @@ from_next n (ws ∷ g) v =
     ∙ sym (map-append (λ (u : ℕ). u + 1) (once_each n ws v) (sources_from (n + 1) g v))
 
 -- they pass a test or not as their nodes do
-once_kept : (test : ℕ → Bool) (u : ℕ) (ws : List ℕ) → test u ≡ true → filter test (map (λ (w : ℕ). u) ws) ≡ map (λ (w : ℕ). u) ws
+pub once_kept : (test : ℕ → Bool) (u : ℕ) (ws : List ℕ) → test u ≡ true → filter test (map (λ (w : ℕ). u) ws) ≡ map (λ (w : ℕ). u) ws
 once_kept test u [] h = refl
 once_kept test u (w ∷ ws) h = ap (λ (b : Bool). cond b (u ∷ filter test (map (λ (x : ℕ). u) ws)) (filter test (map (λ (x : ℕ). u) ws))) h ∙ ap (λ (us : List ℕ). u ∷ us) (once_kept test u ws h)
 
-once_left : (test : ℕ → Bool) (u : ℕ) (ws : List ℕ) → test u ≡ false → filter test (map (λ (w : ℕ). u) ws) ≡ []
+pub once_left : (test : ℕ → Bool) (u : ℕ) (ws : List ℕ) → test u ≡ false → filter test (map (λ (w : ℕ). u) ws) ≡ []
 once_left test u [] h = refl
 once_left test u (w ∷ ws) h = ap (λ (b : Bool). cond b (u ∷ filter test (map (λ (x : ℕ). u) ws)) (filter test (map (λ (x : ℕ). u) ws))) h ∙ once_left test u ws h
 
-from_kept : (test : ℕ → Bool) (n : ℕ) (g : Graph) (v : ℕ) → ((u : ℕ) → n ≤ u → u < n + length g → test u ≡ true) → filter test (sources_from n g v) ≡ sources_from n g v
+pub from_kept : (test : ℕ → Bool) (n : ℕ) (g : Graph) (v : ℕ) → ((u : ℕ) → n ≤ u → u < n + length g → test u ≡ true) → filter test (sources_from n g v) ≡ sources_from n g v
 from_kept test n [] v h = refl
 from_kept test n (ws ∷ g) v h =
     filter-append test (once_each n ws v) (sources_from (n + 1) g v)
     ∙ ap (λ (us : List ℕ). us ++ filter test (sources_from (n + 1) g v)) (once_kept test n (filter (λ w. w == v) ws) (h n (omega arith) (omega arith)))
     ∙ ap (λ (us : List ℕ). once_each n ws v ++ us) (from_kept test (n + 1) g v (λ u a b. h u (omega (arith, a)) (omega (arith, b))))
 
-from_left : (test : ℕ → Bool) (n : ℕ) (g : Graph) (v : ℕ) → ((u : ℕ) → n ≤ u → u < n + length g → test u ≡ false) → filter test (sources_from n g v) ≡ []
+pub from_left : (test : ℕ → Bool) (n : ℕ) (g : Graph) (v : ℕ) → ((u : ℕ) → n ≤ u → u < n + length g → test u ≡ false) → filter test (sources_from n g v) ≡ []
 from_left test n [] v h = refl
 from_left test n (ws ∷ g) v h =
     filter-append test (once_each n ws v) (sources_from (n + 1) g v)

@@ -16,3 +16,4 @@ pub mod Joined
 pub mod Led
 pub mod Rising
 pub mod Raising
+pub mod Elsewhere

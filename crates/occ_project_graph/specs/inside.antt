@@ -4,3 +4,4 @@ pub mod Ranking
 pub mod Circling
 pub mod Numbering
 pub mod Linking
+pub mod Leading

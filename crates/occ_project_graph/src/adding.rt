@@ -34,7 +34,7 @@ fn do_rise(indices: &[usize], nodes: &[usize]) -> bool
 }
 
 /// How often a node is one of these, which is once where it is known.
-fn count_of(nodes: &[usize], node: usize, is_once: bool) -> usize
+pub fn count_of(nodes: &[usize], node: usize, is_once: bool) -> usize
     requires { IsTrue is_once → times_in nodes.now node ≡ 1 }
     ensures { result ≡ times_in nodes.now node }
 {
@@ -45,7 +45,7 @@ fn count_of(nodes: &[usize], node: usize, is_once: bool) -> usize
 }
 
 /// Adds a node so often.
-fn add_times(row: &mut Vec<usize>, node: usize, count: usize) -> Result<(), AllocError>
+pub fn add_times(row: &mut Vec<usize>, node: usize, count: usize) -> Result<(), AllocError>
     ensures { OnOk result (row.new.items ≡ row.old.items ++ replicate count node) }
 {
     for _ in 0..count {

@@ -11,7 +11,7 @@ ghost use Rattle.occ_project_graph.specs.inside.Searching.{mark_at};
 use super::order::in_order;
 use super::ranks::{find_ranks, have_all_ranks, marks_of};
 use super::reaching::{is_known, reaching};
-use super::search::{is_marked, number_at, search};
+use super::search::{Seen, is_marked, number_at, search};
 use sqlite_items::Items;
 use std::alloc::{AllocError, Global};
 
@@ -71,11 +71,12 @@ fn note_mate(
     }
 }
 
-/// Notes a node as the mate of all that it reaches and that are known to reach it.
+/// Notes a node as the mate of those of these that it reaches and that are known to reach it.
 fn note_mates(
     graph: &[Items<usize>],
     ranks: &[usize],
     node: usize,
+    others: &[usize],
     marks: &[bool],
     back: &[bool],
     mates: &mut Items<Option<usize>>,
@@ -86,8 +87,8 @@ fn note_mates(
     requires mates { AreMates graph.now ranks.now (node + 1) mates.old }
     ensures { AreMates graph.now ranks.now (node + 1) mates.new }
 {
-    for other in 0..graph.len() {
-        note_mate(graph, ranks, node, other, marks, back, mates);
+    for other in others {
+        note_mate(graph, ranks, node, *other, marks, back, mates);
     }
 }
 
@@ -98,14 +99,14 @@ fn searched_row(
     ranks: &[usize],
     base: &[bool],
     node: usize,
-) -> Result<Items<bool>, AllocError>
+) -> Result<Seen, AllocError>
     requires ranked { IsRanked graph.now ranks.now }
     requires len { length ranks.now ≡ length graph.now }
     requires base { base.now ≡ ranked_marks ranks.now }
-    ensures { IfOk result (λ row. IsRow graph.now ranks.now node row) }
+    ensures { IfOk result (λ seen. IsRow graph.now ranks.now node seen.marks) }
 {
-    let marks = search(alloc, graph, base, node)?;
-    Ok(marks)
+    let seen = search(alloc, graph, base, node)?;
+    Ok(seen)
 }
 
 /// The row of the next node: none if it has a rank, that of a mate, or the marks of a search. Of a search its mates are noted, so
@@ -134,17 +135,18 @@ fn row(
         let row = copied_row(alloc, found.rows.as_slice(), mate)?;
         return Ok(row);
     }
-    let marks = searched_row(alloc, graph, ranks, base, node)?;
+    let seen = searched_row(alloc, graph, ranks, base, node)?;
     let back = reaching(alloc, graph, sources, node)?;
     note_mates(
         graph,
         ranks,
         node,
-        marks.as_slice(),
+        seen.queue.as_slice(),
+        seen.marks.as_slice(),
         back.as_slice(),
         &mut found.mates,
     );
-    Ok(marks)
+    Ok(seen.marks)
 }
 
 /// A copy of a row.

@@ -5,6 +5,7 @@ mod adding;
 mod circles;
 mod joining;
 pub mod laws;
+mod leading;
 mod linked;
 mod nodes;
 mod numbering;

@@ -1,14 +1,15 @@
 //! A graph with what its nodes rest on and with its edges turned around, cached. Contracts see the edges alone.
 ghost use Rattle.occ_project_graph.specs.Adding.{IsParted, with_node, with_used_node};
-ghost use Rattle.occ_project_graph.specs.Graph.{IsWhole, has_edge as spec_has_edge, is_among, rests as spec_rests, targets as spec_targets};
+ghost use Rattle.occ_project_graph.specs.Graph.{Graph, IsWhole, has_edge as spec_has_edge, is_among, rests as spec_rests, targets as spec_targets};
 ghost use Rattle.occ_project_graph.specs.Sources.{sources as spec_sources};
 ghost use Rattle.occ_project_graph.specs.inside.Linking.{others, rests_kept};
 ghost use Rattle.occ_project_graph.specs.inside.Numbering.{IsNumbered, indexed, row_by};
-ghost use Rattle.std.specs.Prelude.{◌≡◌, ◌<◌, ◌≤◌, ◌++◌, ◌∷◌, [], ℕ, IfOk, IsTrue, OnErr, OnOk, false, get_or, length, true, vec_capacity, vec_len};
+ghost use Rattle.std.specs.Prelude.{◌≡◌, ◌<◌, ◌≤◌, ◌++◌, ◌∷◌, [], ℕ, IfOk, IsTrue, OnErr, OnOk, false, get_or, length, slice_set, true, vec_capacity, vec_len};
 
 use super::adding::{lead, lead_no_more, put_found, put_rows};
 use super::circles::find_rests;
 use super::joining::{lead_rests, led_rows, marked_numbers};
+use super::leading::{both, is_reached, later_edges, numbers_of, replaced, rows_later};
 use super::nodes::Nodes;
 use super::numbering::{first_numbers, insert_node, numbers_then, push_within};
 use super::resting::{add_rests, is_one};
@@ -130,6 +131,27 @@ fn make_ready(
 {
     sources.reserve(1)?;
     add_rests(alloc, rests, edges, number, targets)
+}
+
+/// Whether a node rests on all to which edges lead from it, so that it stands in no circle.
+fn is_free(edges: &[Items<usize>], rests: &Option<Vec<Items<usize>>>, number: usize) -> bool
+    ensures { IsTrue result → length (spec_targets (rests_kept edges.now rests.now) number) ≡ length (spec_targets edges.now number) }
+{
+    match rests {
+        Some(rests) => row(rests.as_slice(), number).len() == row(edges, number).len(),
+        None => true,
+    }
+}
+
+/// Puts the row of a node among those that are kept of what nodes rest on, if these are, where edges lead from it to these then.
+fn put_rest(rests: &mut Option<Vec<Items<usize>>>, number: usize, row: Items<usize>)
+    ensures { (edges : Graph) → rests_kept (slice_set edges number row) rests.new ≡ slice_set (rests_kept edges rests.old) number row }
+{
+    if let Some(rows) = rests {
+        if number < rows.len() {
+            rows[number] = row;
+        }
+    }
 }
 
 impl Linked {
@@ -294,6 +316,79 @@ impl Linked {
         push_within(&mut self.edges, Items::new(alloc));
         put_rows(&mut self.edges, users.as_slice(), found);
         push_within(&mut self.sources, users);
+        Ok(())
+    }
+
+    /// Edges lead from a node to these from then on, if it stands in no circle, neither before nor then; and whether that is so. Else
+    /// nothing is changed. All memory is taken before the first change that stays.
+    pub fn lead_to(
+        &mut self,
+        alloc: Global,
+        node: usize,
+        targets: &[usize],
+    ) -> Result<bool, AllocError>
+        requires node { node < length self.old }
+        requires within { (v : ℕ) → is_among targets.now v ≡ true → v < length self.old }
+        ensures done { IfOk result (λ done. done ≡ true → self.new ≡ slice_set self.old node targets.now) }
+        ensures other { IfOk result (λ done. done ≡ false → self.new ≡ self.old) }
+        ensures err { OnErr result (self.new ≡ self.old) }
+    {
+        let number = self.numbers[node];
+        if !is_free(self.edges.as_slice(), &self.rests, number) {
+            return Ok(false);
+        }
+        let led = numbers_of(alloc, self.numbers.as_slice(), targets)?;
+        let nodes = both(alloc, row(self.edges.as_slice(), number), led.as_slice())?;
+        let found = rows_later(
+            alloc,
+            self.indices.as_slice(),
+            self.sources.as_slice(),
+            node,
+            number,
+            nodes.as_slice(),
+            led.as_slice(),
+        )?;
+        let kept = Items::from_slice(alloc, led.as_slice())?;
+        let before = replaced(&mut self.edges, number, led);
+        match is_reached(alloc, self.edges.as_slice(), number) {
+            Ok(false) => {
+                put_rows(&mut self.sources, nodes.as_slice(), found);
+                put_rest(&mut self.rests, number, kept);
+                Ok(true)
+            }
+            Ok(true) => {
+                let _led = replaced(&mut self.edges, number, before);
+                Ok(false)
+            }
+            Err(refused) => {
+                let _led = replaced(&mut self.edges, number, before);
+                Err(refused)
+            }
+        }
+    }
+
+    /// The same of any node, where all that nodes rest on is found anew.
+    pub fn lead_anew(
+        &mut self,
+        alloc: Global,
+        node: usize,
+        targets: &[usize],
+    ) -> Result<(), AllocError>
+        requires node { node < length self.old }
+        requires whole { IsWhole self.old }
+        requires within { (v : ℕ) → is_among targets.now v ≡ true → v < length self.old }
+        ensures ok { OnOk result (self.new ≡ slice_set self.old node targets.now) }
+        ensures err { OnErr result (self.new ≡ self.old) }
+    {
+        let edges = later_edges(
+            alloc,
+            self.numbers.as_slice(),
+            self.indices.as_slice(),
+            self.edges.as_slice(),
+            node,
+            targets,
+        )?;
+        *self = Linked::of(alloc, edges)?;
         Ok(())
     }
 }

@@ -55,10 +55,7 @@ pub fn order_back(
     sources: &[Items<usize>],
     goal: usize,
 ) -> Result<Vec<usize>, AllocError> {
-    let mut seen = Items::new(alloc);
-    for _ in sources {
-        seen.push(false)?;
-    }
+    let mut seen = Items::from_vec(vec![in alloc; false; sources.len()]?);
     let mut order = Vec::new(alloc);
     come_to(row(sources, goal), &mut seen, &mut order)?;
     for index in 0..sources.len() {

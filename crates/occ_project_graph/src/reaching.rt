@@ -32,14 +32,10 @@ fn leads_on(nodes: &[usize], goal: usize, marks: &[bool]) -> bool
 }
 
 /// No mark, so many times.
-fn no_marks(alloc: Global, count: usize) -> Result<Items<bool>, AllocError>
+pub fn no_marks(alloc: Global, count: usize) -> Result<Items<bool>, AllocError>
     ensures { IfOk result (λ marks. marks ≡ replicate count false) }
 {
-    let mut marks = Items::new(alloc);
-    for _ in 0..count {
-        marks.push(false)?;
-    }
-    Ok(marks)
+    Ok(Items::from_vec(vec![in alloc; false; count]?))
 }
 
 /// Marks a node, if an edge leads from it to the goal or to a marked node.

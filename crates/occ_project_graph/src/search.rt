@@ -68,15 +68,16 @@ fn see_all(seen: &mut Seen, nodes: &[usize]) -> Result<(), AllocError>
     Ok(())
 }
 
-/// Marks the nodes to which edges lead from a node, beside those of the base, which is gone through by no way.
+/// Marks the nodes to which edges lead from a node, beside those of the base, which is gone through by no way. Nothing is said of the
+/// nodes that it came to.
 pub fn search(
     alloc: Global,
     graph: &[Items<usize>],
     base: &[bool],
     from: usize,
-) -> Result<Items<bool>, AllocError>
+) -> Result<Seen, AllocError>
     requires { IsClosed graph.now base.now }
-    ensures { IfOk result (λ marks. (v : ℕ) → mark_at base.now v ≡ false → mark_at marks v ≡ reaches graph.now from v) }
+    ensures { IfOk result (λ seen. (v : ℕ) → mark_at base.now v ≡ false → mark_at seen.marks v ≡ reaches graph.now from v) }
 {
     let marks = Items::from_slice(alloc, base)?;
     let queue = Items::new(alloc);
@@ -88,5 +89,5 @@ pub fn search(
         see_all(&mut seen, targets(graph, node))?;
         index += 1;
     }
-    Ok(seen.marks)
+    Ok(seen)
 }

@@ -19,3 +19,4 @@ pub mod Lacking
 pub mod Looking
 pub mod Noting
 pub mod OtherReaders
+pub mod Leading

@@ -30,7 +30,7 @@ use Rattle.occ_project_units.specs.Project.{IsProject, put}
 use Rattle.occ_project_units.specs.Units.{read_names, used_units}
 use Rattle.occ_project_units.specs.declared.facts.Facts.{Facts}
 use Rattle.occ_project_units.specs.declared.lookers.Lookers.{Lookers}
-use Rattle.occ_project_units.specs.inside.Keeping.{AreLookers, AreLookersIf, AreNotedAfter, AreOthers, IsMore, IsNoted, IsNotedBy, IsNotedOf, all_facts, facts_of, looking_for, row_of}
+use Rattle.occ_project_units.specs.inside.Keeping.{AreLookers, AreLookersIf, AreNotedAfter, AreNotedThen, AreOthers, IsMore, IsNoted, IsNotedBy, IsNotedOf, all_facts, facts_of, looking_for, row_of}
 
 abbrev Names : Type 0
 Names = List (List ℕ)
@@ -283,6 +283,17 @@ after_by files later file (Some lookers) next put_is are noted = lookers_put fil
 pub lookers_put_if : (files later : List Read) (file : Read) (lookers found : Option Lookers) → later ≡ put files file → AreLookersIf files lookers → IfSome found (λ next. AreNotedAfter later file.name lookers next) → AreLookersIf later found
 lookers_put_if files later file lookers None put_is are h = tt
 lookers_put_if files later file lookers (Some next) put_is are h = after_by files later file lookers next put_is are h
+
+-- or all are noted anew
+then_by : (files later : List Read) (file : Read) (lookers : Option Lookers) (next : Lookers) → later ≡ put files file → AreLookersIf files lookers → AreNotedThen later file.name lookers next → AreLookers later next
+then_by files later file lookers next put_is are noted = elim noted [
+  | inl more ↦ after_by files later file lookers next put_is are more
+  | inr all ↦ all
+]
+
+pub lookers_then_if : (files later : List Read) (file : Read) (lookers found : Option Lookers) → later ≡ put files file → AreLookersIf files lookers → IfSome found (λ next. AreNotedThen later file.name lookers next) → AreLookersIf later found
+lookers_then_if files later file lookers None put_is are h = tt
+lookers_then_if files later file lookers (Some next) put_is are h = then_by files later file lookers next put_is are h
 
 -- what holds where there was memory
 pub on_ok_more : {X E : Type 0} (r : Result X E) (P Q : Type 0) → (P → Q) → OnOk r P → OnOk r Q

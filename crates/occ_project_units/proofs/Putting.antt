@@ -1,5 +1,5 @@
 -- A file that is put into a project.
-use Rattle.std.proofs.Common.{◌≡◌, ℕ, zero, suc, ◌≤◌, true, false, Bool, cond, List, [], ◌∷◌, length, map, set, Option, Some, None, refl, sym, ap, ◌∙◌, subst, arith}
+use Rattle.std.proofs.Common.{◌≡◌, ℕ, zero, suc, ◌+◌, ◌++◌, ◌≤◌, true, false, Bool, cond, List, [], ◌∷◌, length, map, set, Option, Some, None, refl, sym, ap, ◌∙◌, subst, arith}
 use Rattle.std.specs.BTreeSet.{insert_key}
 use Rattle.std.specs.List.{AllByRecursion, AllWithin, insert}
 use Rattle.std.specs.List.Sorted.{IsStrictlySortedBy}
@@ -11,7 +11,7 @@ use Rattle.std.specs.declared.cmp.Ordering.{Ordering}
 use Rattle.std.specs.declared.cmp.Ordering.TheVariants.{Less, Equal, Greater}
 use Rattle.occ_project.specs.declared.reads.Read.{Read}
 use Rattle.occ_project.specs.Reads.{member, name_cmp, index}
-use Rattle.occ_project_units.specs.Project.{IsProject, file_of, put}
+use Rattle.occ_project_units.specs.Project.{IsProject, file_of, put, put_back}
 use Rattle.occ_project_units.specs.New.{IsGap}
 use Rattle.occ_project_units.proofs.Looks.{same_bytes}
 use Rattle.occ_project_units.proofs.Rising.{apart, equal_names, insert_rising, test_equal, turned}
@@ -115,3 +115,16 @@ spelled_put files file h k name = by (bytes_eq file.name name) (file_put files f
   by : (b : Bool) → file_of (put files file) name ≡ cond b file (file_of files name) → IsSpelled (file_of (put files file) name).source
   by true e = subst (λ (f : Read). IsSpelled f.source) (sym e) k
   by false e = subst (λ (f : Read). IsSpelled f.source) (sym e) (h name)
+
+-- files that come one after the other
+pub back_last : (files more : List Read) (file : Read) → put_back files (more ++ file ∷ []) ≡ put_back (put files file) more
+back_last files [] file = refl
+back_last files (x ∷ more) file = ap (λ (fs : List Read). put fs x) (back_last files more file)
+
+pub back_long : (more : List Read) (file : Read) → length (more ++ file ∷ []) ≡ length more + 1
+back_long [] file = refl
+back_long (x ∷ more) file = let long = back_long more file in omega (arith, long)
+
+pub back_rises : (files more : List Read) → IsProject files → IsProject (put_back files more)
+back_rises files [] h = h
+back_rises files (x ∷ more) h = put_rises (put_back files more) x (back_rises files more h)

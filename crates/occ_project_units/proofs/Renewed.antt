@@ -291,7 +291,7 @@ module _ (files later : List Read) (file : Read) (at : ℕ) (project : IsProject
     none_by false f = refl
 
     -- of what does not read it the same is known
-    apart_stays : (p : ℕ) → p < length files → is_index (readers_at files at) p ≡ false → facts_of files (name_at files p) ≡ facts_of later (name_at files p)
+    pub apart_stays : (p : ℕ) → p < length files → is_index (readers_at files at) p ≡ false → facts_of files (name_at files p) ≡ facts_of later (name_at files p)
     apart_stays p lt none = facts_stay files later (name_at files p) file.name others (none_by (is_among (facts_of files (name_at files p)).reads file.name) (λ k.
         let reads : is_among (read_names files (name_at files p)) file.name ≡ true = k in
         let there = reads_reader law files p at file.name lt e reads in

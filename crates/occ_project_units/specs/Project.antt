@@ -15,6 +15,11 @@ abbrev pub put : List Read → Read → List Read
 put [] file = file ∷ []
 put (other ∷ files) file = match_ordering (name_cmp file.name other.name) (file ∷ other ∷ files) (file ∷ files) (other ∷ put files file)
 
+-- these files come one after the other, the last of them first
+abbrev pub put_back : List Read → List Read → List Read
+put_back files [] = files
+put_back files (file ∷ more) = put (put_back files more) file
+
 -- the file of that name: one that is not in the project is absent, and no edit made it so
 abbrev pub file_of : List Read → List ℕ → Read
 file_of files name = unwrap_or (member files name) (record { name = name; revision = 0; source = None })

@@ -23,8 +23,8 @@ use super::links::links_of;
 use super::lookers::{Lookers, names_of};
 use super::project::{Project, share};
 use super::readers::{find_readers, with_itself};
-use super::renewing::renew;
-use super::seeking::{lookers_after, lookers_with};
+use super::renewing::{renew, renew_leading};
+use super::seeking::{lookers_after, lookers_among, lookers_with};
 use super::standing::Standing;
 use occ_base::{FileName, Items, Shared};
 use occ_forms::Source;
@@ -33,6 +33,9 @@ use occ_project_graph::{Linked, Nodes};
 use std::alloc::{AllocError, Global};
 use std::marker::Model;
 use std::slice;
+
+/// So many units read a file that is put in place, if they do not read and use the same as before.
+const FEW: usize = 8;
 
 /// The indices in a row, if there is one.
 fn row(rows: &[Items<usize>], index: usize) -> &[usize]
@@ -597,8 +600,8 @@ impl Graph {
         Ok(alike)
     }
 
-    /// The same of a file that may be open as it was not.
-    fn set_unread(
+    /// The same, where its readers are few, and at most one of them uses others than before.
+    fn set_leading(
         &mut self,
         alloc: Global,
         index: usize,
@@ -611,16 +614,32 @@ impl Graph {
         ensures other { IfOk result (λ done. done ≡ false → self.new ≡ self.old) }
         ensures err { OnErr result (self.new ≡ self.old) }
     {
+        if readers.len() > FEW {
+            return Ok(false);
+        }
         let _files = self.project.files();
         let again = Shared::new(alloc, share(file)?)?;
-        let done = renew(
+        let done = renew_leading(
             alloc,
             &mut self.project,
             &mut self.facts,
+            &mut self.links,
             index,
             readers,
             again,
         )?;
+        if done {
+            self.readers = None;
+            self.lookers = lookers_among(
+                alloc,
+                self.lookers.take(),
+                &self.project,
+                self.facts.as_slice(),
+                &self.links,
+                file.name,
+                readers,
+            );
+        }
         Ok(done)
     }
 
@@ -632,26 +651,16 @@ impl Graph {
         ensures alike { IfOk result (λ alike. alike ≡ true → AreAlike self.old self.new) }
         ensures err { OnErr result (self.new ≡ self.old) }
     {
+        let readers = self.readers(alloc, index)?;
+        if self.set_leading(alloc, index, readers.as_slice(), &file)? {
+            return Ok(false);
+        }
         if !self.is_open_as(index, &file) {
-            self.set_closed(alloc, index, file)?;
+            self.put_read(alloc, file.name, file.revision, file.source)?;
             return Ok(false);
         }
         let same = self.put_read(alloc, file.name, file.revision, file.source)?;
         Ok(same)
-    }
-
-    /// The same where it is not said. If at most one unit reads the file, and uses the same as before, the rest stays where it is.
-    fn set_closed(&mut self, alloc: Global, index: usize, file: Read) -> Result<(), AllocError>
-        requires { spec_index file.name self.old ≡ Some index }
-        ensures ok { OnOk result (self.new ≡ put self.old file) }
-        ensures err { OnErr result (self.new ≡ self.old) }
-    {
-        let readers = self.readers(alloc, index)?;
-        if readers.len() <= 1 && self.set_unread(alloc, index, readers.as_slice(), &file)? {
-            return Ok(());
-        }
-        self.put_read(alloc, file.name, file.revision, file.source)?;
-        Ok(())
     }
 
     /// What rests on what and uses what after the edit of a file; nothing, if that is the same as before, since no file is new

@@ -2,11 +2,11 @@
 ghost use Rattle.occ_project.specs.Reads.{member, index as spec_index, name_cmp};
 ghost use Rattle.occ_project.specs.declared.reads.Read.{Read as ARead};
 ghost use Rattle.occ_project_units.specs.Along.{name_at as spec_name_at};
-ghost use Rattle.occ_project_units.specs.Project.{IsProject, file_of, put};
+ghost use Rattle.occ_project_units.specs.Project.{IsProject, file_of, put, put_back};
 ghost use Rattle.occ_project_units.specs.New.{IsGap};
 ghost use Rattle.std.specs.List.{remove};
 ghost use Rattle.std.specs.Option.{is_some, option_copied};
-ghost use Rattle.std.specs.Prelude.{[], map, get_or, IfOk, IfSome, IsTrue, MatchResult, List, None, OnErr, OnOk, Some, length, ℕ, ◌≡◌, ◌<◌, ◌≤◌};
+ghost use Rattle.std.specs.Prelude.{[], map, get_or, IfOk, IfSome, IsTrue, MatchResult, List, None, OnErr, OnOk, Some, length, vec_capacity, vec_len, ℕ, ◌≡◌, ◌<◌, ◌≤◌, ◌+◌};
 ghost use Rattle.std.specs.declared.cmp.Ordering.TheVariants.{Less, Greater};
 
 use super::inserting::insert_at;
@@ -65,6 +65,42 @@ pub fn share(file: &Read) -> Result<Read, AllocError>
     })
 }
 
+/// Where a file of that name stands among files in order of name, or where one would.
+#[inline(always)]
+fn find_in(files: &[Shared<Read>], name: FileName) -> Result<usize, usize>
+    requires { IsProject files.now }
+    ensures { MatchResult result (λ at. spec_index name files.now ≡ Some at) (λ at. IsGap name files.now at) }
+{
+    files.binary_search_by(|file| file.get().name.cmp(&name))
+}
+
+/// Puts a file among files in order of name, where there is room for one more.
+fn put_within(files: &mut Vec<Shared<Read>>, file: Shared<Read>)
+    requires project { IsProject files.old.items }
+    requires room { vec_len files.old < vec_capacity files.old }
+    ensures files { files.new.items ≡ put files.old.items file }
+    ensures capacity { vec_capacity files.old ≤ vec_capacity files.new }
+    ensures len { vec_len files.new ≤ vec_len files.old + 1 }
+{
+    match find_in(files.as_slice(), file.get().name) {
+        Ok(at) => files[at] = file,
+        Err(at) => {
+            let _ = files.insert(at, file);
+        }
+    }
+}
+
+/// Puts files among others, the last of them first, where there is room for all.
+fn put_all_within(files: &mut Vec<Shared<Read>>, mut found: Items<Shared<Read>>)
+    requires project { IsProject files.old.items }
+    requires room { vec_len files.old + length found ≤ vec_capacity files.old }
+    ensures { files.new.items ≡ put_back files.old.items found }
+{
+    while let Some(file) = found.pop() {
+        put_within(files, file);
+    }
+}
+
 /// The same files.
 fn share_all(alloc: Global, files: &[Shared<Read>]) -> Result<Vec<Shared<Read>>, AllocError>
     ensures { IfOk result (λ shared. shared.items ≡ files.now) }
@@ -99,8 +135,7 @@ impl Project {
     fn find(&self, name: FileName) -> Result<usize, usize>
         ensures { MatchResult result (λ at. spec_index name self.now ≡ Some at) (λ at. IsGap name self.now at) }
     {
-        self.files
-            .binary_search_by(|file| file.get().name.cmp(&name))
+        find_in(self.files.as_slice(), name)
     }
 
     /// The place of the file of that name.
@@ -203,6 +238,16 @@ impl Project {
                 Ok(())
             }
         }
+    }
+
+    /// Puts these files, the last of them first. All memory is taken before the first change.
+    pub fn put_all(&mut self, found: Items<Shared<Read>>) -> Result<(), AllocError>
+        ensures ok { OnOk result (self.new ≡ put_back self.old found) }
+        ensures err { OnErr result (self.new ≡ self.old) }
+    {
+        self.files.reserve(found.len())?;
+        put_all_within(&mut self.files, found);
+        Ok(())
     }
 
     /// Where a file of that name would stand, if there is none.
@@ -358,7 +403,7 @@ impl Project {
     }
 
     /// The same project, which shares its texts.
-    pub(crate) fn share(&self, alloc: Global) -> Result<Project, AllocError>
+    pub fn share(&self, alloc: Global) -> Result<Project, AllocError>
         ensures { IfOk result (λ project. project ≡ self.now) }
     {
         Ok(Project {

@@ -1,10 +1,11 @@
 //! Notes who looks for what, by what is known of files. Where there is no room for a note, or no memory, nothing is known: all are
 //! noted anew when a file comes next.
+ghost use Rattle.occ_project_graph.specs.Graph.{is_among as spec_is_among};
 ghost use Rattle.occ_project.specs.Entries.{is_among};
 ghost use Rattle.occ_project_units.specs.Along.{name_at};
 ghost use Rattle.occ_project_units.specs.Indices.{graph_of};
 ghost use Rattle.occ_project_units.specs.Units.{read_names};
-ghost use Rattle.occ_project_units.specs.inside.Keeping.{AreLookers, AreNotedAfter, AreNotedWith, IsMore, IsNoted, IsNotedBy, IsNotedOf, all_facts as spec_all_facts, looking_for};
+ghost use Rattle.occ_project_units.specs.inside.Keeping.{AreLookers, AreNotedAfter, AreNotedThen, AreNotedWith, AreReading, IsMore, IsNoted, IsNotedBy, IsNotedOf, all_facts as spec_all_facts, looking_for};
 ghost use Rattle.std.specs.Prelude.{◌≡◌, ◌<◌, false, IfSome, IsTrue, length, List, true, ℕ};
 ghost use Rattle.std.specs.Str.{bytes_eq};
 
@@ -180,7 +181,8 @@ fn lookers_of(
     if facts.len() < FEW {
         return None;
     }
-    let mut lookers = Lookers::with_room(alloc, count_all(facts, links)).ok()?;
+    let room = count_all(facts, links).saturating_add(facts.len() / FEW);
+    let mut lookers = Lookers::with_room(alloc, room).ok()?;
     for index in 0..facts.len() {
         if !note_at(alloc, &mut lookers, project, facts, links, index) {
             return None;
@@ -230,4 +232,49 @@ pub fn lookers_after(
     } else {
         None
     }
+}
+
+/// Notes all that the files at these indices look for.
+fn note_among(
+    alloc: Global,
+    lookers: &mut Lookers,
+    project: &Project,
+    facts: &[Shared<Facts>],
+    links: &Linked,
+    indices: &[usize],
+) -> bool
+    requires within { (p : ℕ) → spec_is_among indices.now p ≡ true → p < length project.now }
+    requires facts { facts.now ≡ spec_all_facts project.now }
+    requires links { links.now ≡ graph_of project.now }
+    ensures more { IsMore lookers.old lookers.new }
+    ensures noted { IsTrue result → (p : ℕ) → spec_is_among indices.now p ≡ true → IsNoted project.now (name_at project.now p) lookers.new }
+{
+    for index in indices {
+        if !note_at(alloc, lookers, project, facts, links, *index) {
+            return false;
+        }
+    }
+    true
+}
+
+/// Who looks for what after the edit of a file, where this was known before and the files at these indices read it.
+pub fn lookers_among(
+    alloc: Global,
+    lookers: Option<Lookers>,
+    project: &Project,
+    facts: &[Shared<Facts>],
+    links: &Linked,
+    edited: FileName,
+    readers: &[usize],
+) -> Option<Lookers>
+    requires facts { facts.now ≡ spec_all_facts project.now }
+    requires links { links.now ≡ graph_of project.now }
+    requires readers { AreReading project.now edited readers.now }
+    ensures { IfSome result (λ next. AreNotedThen project.now edited lookers next) }
+{
+    let mut lookers = lookers?;
+    if note_among(alloc, &mut lookers, project, facts, links, readers) {
+        return Some(lookers);
+    }
+    lookers_of(alloc, project, facts, links)
 }

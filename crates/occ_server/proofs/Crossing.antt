@@ -541,7 +541,7 @@ flags_field_send : IsSend flags.the_field.row
 flags_field_send = search (sendable, Vec-send) depth 30
 
 base_field_send : IsSend base.the_field.row
-base_field_send = search (sendable, items.the_send, read_send) depth 30
+base_field_send = search (sendable, project_field_send) depth 30
 
 waiting_field_send : IsSend waiting.the_field.row
 waiting_field_send = search (sendable, BTreeMap-send, number_send) depth 30

@@ -1,11 +1,11 @@
 -- What a graph keeps.
 use Rattle.std.specs.List.{filter, insert}
 use Rattle.std.specs.Option.{option_map, unwrap_or}
-use Rattle.std.specs.Prelude.{◌≡◌, ◌<◌, ◌≤◌, ◌⊎◌, ◌==◌, ◌%◌, ℕ, zero, suc, Bool, false, true, not, List, [], ◌∷◌, get_or, length, map, slice_get, Option, Some, None}
+use Rattle.std.specs.Prelude.{◌≡◌, ◌+◌, ◌<◌, ◌≤◌, ◌⊎◌, ◌==◌, ◌%◌, ℕ, zero, suc, Bool, false, true, not, List, [], ◌∷◌, get_or, length, map, slice_get, slice_set, Option, Some, None}
 use Rattle.std.specs.Str.{bytes_eq}
 use Rattle.occ_base.specs.Mixing.{number_of_bytes}
 use Rattle.occ_project_graph.specs.Adding.{IsParted, with_used_node}
-use Rattle.occ_project_graph.specs.Graph.{Graph, targets}
+use Rattle.occ_project_graph.specs.Graph.{Graph, is_among as is_index, targets}
 use Rattle.occ_project.specs.declared.reads.Read.{Read}
 use Rattle.occ_project.specs.Entries.{is_among}
 use Rattle.occ_project.specs.Reads.{index}
@@ -76,10 +76,19 @@ abbrev pub AreNotedWith : List Read → ℕ → Option Lookers → Lookers → T
 AreNotedWith files at None next = AreLookers files next
 AreNotedWith files at (Some lookers) next = (IsMore lookers next × IsNoted files (name_at files at) next) ⊎ AreLookers files next
 
+-- those that read a file of that name stand at these indices
+pub record AreReading (files : List Read) (name : List ℕ) (indices : List ℕ) : Type 0 where
+  pub within : (p : ℕ) → is_index indices p ≡ true → p < length files
+  pub all : (p : ℕ) → p < length files → is_among (read_names files (name_at files p)) name ≡ true → is_index indices p ≡ true
+
 -- those are noted that read the edited file, and where files were found they are found still
 abbrev pub AreNotedAfter : List Read → List ℕ → Option Lookers → Lookers → Type 0
 AreNotedAfter files edited None next = ⊥
 AreNotedAfter files edited (Some lookers) next = IsMore lookers next × ((p : ℕ) → p < length files → is_among (read_names files (name_at files p)) edited ≡ true → IsNoted files (name_at files p) next)
+
+-- or all are
+abbrev pub AreNotedThen : List Read → List ℕ → Option Lookers → Lookers → Type 0
+AreNotedThen files edited lookers next = AreNotedAfter files edited lookers next ⊎ AreLookers files next
 
 pub record IsGraph (files : List Read) (facts : List Facts) (links : Graph) (readers : Option Graph) (lookers : Option Lookers) : Type 0 where
   pub facts_are : facts ≡ all_facts files
@@ -96,6 +105,23 @@ IsAsBefore (Some before) (Some now) = (before.reads ≡ now.reads) × (before.us
 -- so do the files at these indices, by what was found of them
 abbrev pub AreAsBefore : List Facts → List ℕ → List Facts → Type 0
 AreAsBefore facts indices found = (i : ℕ) → i < length indices → IsAsBefore (slice_get facts (get_or indices i 0)) (slice_get found i)
+
+-- what is known of a file uses what it did before
+abbrev pub IsUsingAsBefore : Option Facts → Option Facts → Type 0
+IsUsingAsBefore None now = ⊥
+IsUsingAsBefore (Some before) None = ⊥
+IsUsingAsBefore (Some before) (Some now) = before.uses ≡ now.uses
+
+-- so do the files at these indices from one place up to another, by what was found of them
+abbrev pub DoUseAsBefore : List Facts → List ℕ → List Facts → ℕ → ℕ → Type 0
+DoUseAsBefore facts indices found from place = (i : ℕ) → from ≤ i → i < place → i < length indices → IsUsingAsBefore (slice_get facts (get_or indices i 0)) (slice_get found i)
+
+-- where one at most of the files at these indices uses others than before, at this place, edges lead from it to these, if there is one
+pub record IsLed (later : List Read) (facts : List Facts) (indices : List ℕ) (found : List Facts) (g led : Graph) : Type 0 where
+  pub place : ℕ
+  pub before : DoUseAsBefore facts indices found 0 place
+  pub behind : DoUseAsBefore facts indices found (place + 1) (length indices)
+  pub is : ((length indices ≤ place) × (led ≡ g)) ⊎ ((place < length indices) × (led ≡ slice_set g (get_or indices place 0) (indices_of later (get_or (map (λ f. f.uses) found) place []))))
 
 -- all read and use what they did before
 pub record IsRenewed (files later : List Read) : Type 0 where

@@ -5,4 +5,4 @@ pub search-requires : goal.search-requires
 search-requires c = closed_base c.args.graph.now c.args.ranks.now c.args.base.now c.requires.ranked c.requires.len c.requires.base
 
 pub returns : goal.returns
-returns c = row_is c.args.graph.now c.args.ranks.now c.args.base.now c.in_ok-marks.marks c.args.node c.requires.len c.requires.base c.in_ok-marks.ensures
+returns c = row_is c.args.graph.now c.args.ranks.now c.args.base.now c.in_ok-seen.seen.marks c.args.node c.requires.len c.requires.base c.in_ok-seen.ensures
