@@ -18,8 +18,9 @@ ghost use Rattle.occ_usage.specs.Naming.{lines_depend as spec_lines_depend};
 ghost use Rattle.occ_usage.specs.Trees.{head_of, trees_of, under as spec_under};
 
 use super::effect::{effect_under, is_body};
+use super::finding::{Finding, Told};
 use super::multiple::assignment_faults;
-use super::rounds::{add_runs, add_times, alike_rounds};
+use super::rounds::alike_rounds;
 use occ_alias::{
     Reported, UsageScope, body_bound, enter_all, enter_index, enter_line, form_uses, graver,
     index_value, line_faults, number_after,
@@ -33,26 +34,6 @@ use occ_usage_conflicts::{
 };
 use occ_usage_values::{Bound, Use};
 use std::alloc::{AllocError, Global};
-
-/// What the rules of uses report of lines, in no order, some perhaps more than once.
-#[derive(Drop)]
-pub(crate) struct Finding {
-    /// What the parallel rule reports.
-    parallel: Items<Diag>,
-    /// What the abbreviation rule reports, with both grades.
-    abbreviations: Reported,
-}
-
-impl Finding {
-    pub(crate) fn nothing(alloc: Global) -> Finding
-        ensures { result ≡ record { parallel = []; abbreviations = [] } }
-    {
-        Finding {
-            parallel: Items::new(alloc),
-            abbreviations: Reported::nothing(alloc),
-        }
-    }
-}
 
 /// The replicator of a line, if it is known.
 pub(crate) fn known_replicator(form: &TypedForm) -> Option<KnownReplicator>
@@ -126,11 +107,15 @@ fn rounds(
 {
     let mut uses = Items::new(alloc);
     let mut sizes = Vec::new(alloc);
+    let mut told = Told::nothing(alloc);
     for i in 0..known.count {
         let before = uses.len();
-        add_round(alloc, known.base, i, lines, env, &mut uses, reported)?;
+        let mut found = Finding::nothing(alloc);
+        add_round(alloc, known.base, i, lines, env, &mut uses, &mut found)?;
+        told.add(found)?;
         sizes.push(uses.len().saturating_sub(before))?;
     }
+    reported.report(alloc, told)?;
     Ok(EachRound { uses, sizes })
 }
 
@@ -149,10 +134,13 @@ fn add_rounds(
     ensures parallel { OnOk result (reported.new.parallel ≡ reported.old.parallel ++ rounds_reported known.count known.base env.old (reported_of parallel_at (trees_of lines.now))) }
     ensures abbreviations { OnOk result (reported.new.abbreviations ≡ reported.old.abbreviations ++ rounds_reported known.count known.base env.old (reported_of abbreviation_at (trees_of lines.now))) }
 {
+    let mut told = Told::nothing(alloc);
     for index in 0..known.count {
-        add_round(alloc, known.base, index, lines, env, uses, reported)?;
+        let mut found = Finding::nothing(alloc);
+        add_round(alloc, known.base, index, lines, env, uses, &mut found)?;
+        told.add(found)?;
     }
-    Ok(())
+    reported.report(alloc, told)
 }
 
 /// The uses of each item under a line, with what the line enters in scope, and what is reported of them.
@@ -411,18 +399,9 @@ fn alike_uses(
         &mut uses,
         &mut found,
     )?;
-    add_times(
-        alloc,
-        found.parallel.as_slice(),
-        known.count,
-        &mut reported.parallel,
-    )?;
-    add_runs(
-        alloc,
-        found.abbreviations.runs(),
-        known.count,
-        &mut reported.abbreviations,
-    )?;
+    let mut told = Told::nothing(alloc);
+    told.add(found)?;
+    reported.report(alloc, told)?;
     repeated_faults(
         alloc,
         known,
