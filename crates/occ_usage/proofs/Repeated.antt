@@ -1,5 +1,6 @@
 -- Rounds of a replicator that no line under it names: what one of them uses and reports is what all do.
 use Rattle.std.proofs.Common.{◌≡◌, ◌∙◌, ◌++◌, ◌≤◌, ◌<◌, ℕ, zero, suc, ℤ, true, false, Some, List, [], ◌∷◌, length, replicate, OnOk, Result, Ok, Err, refl, ap, ap₂, sym, arith}
+use Rattle.occ_base.specs.Order.{diag_order, placed}
 use Rattle.occ_base.specs.declared.diag.Diag.{Diag}
 use Rattle.occ_alias.specs.Entering.{index_value}
 use Rattle.occ_project.specs.declared.expanded.Location.{Location}
@@ -20,11 +21,11 @@ use Rattle.occ_usage.specs.Comparing.{are_compared, is_compared}
 use Rattle.occ_usage.specs.Lines.{Under, components, items_of, known_replicator, rounds_to, with_index}
 use Rattle.occ_usage.specs.Naming.{lines_depend}
 use Rattle.occ_usage.specs.ParallelRule.{block_faults, own_faults, parallel_at}
-use Rattle.occ_usage.specs.Rounds.{times}
 use Rattle.occ_usage.specs.Trees.{Head, Trees}
 use Rattle.occ_usage.specs.Walk.{Finding, line_reported, reported_of, rounds_reported, under_reported}
 use Rattle.occ_usage.proofs.Compared.{own_compared, reported_by, rounds_components, rounds_under}
 use Rattle.occ_usage.proofs.Sameness.{FindingSame, UnderSame, items_of_same, reported_abbreviation_same, reported_parallel_same}
+use Rattle.occ_usage.proofs.Told.{told_again}
 
 pub on_ok : {T E : Type 0} (r : Result T E) {P Q : Type 0} → (P → Q) → OnOk r P → OnOk r Q
 on_ok (Ok x) f h = f h
@@ -45,14 +46,20 @@ rounds_copies env base under u (suc i) =
     (u (with_index env base i) (with_index env base 0) (index_differ env base i 0))
     ∙ replicate_last i (joined (under (with_index env base 0)))
 
-rounds_times : (env : Env) (base : ℤ) (x : Finding) → FindingSame (length env) x → (n : ℕ) → rounds_reported n base env x ≡ times n (x (with_index env base 0))
-rounds_times env base x u zero = refl
-rounds_times env base x u (suc i) =
-    ap₂ (λ (ds es : List Diag). ds ++ es) (rounds_times env base x u i) (u (with_index env base i) (with_index env base 0) (index_differ env base i 0))
+rounds_told : (env : Env) (base : ℤ) (x : Finding) → FindingSame (length env) x → (n : ℕ) → rounds_reported (suc n) base env x ≡ placed diag_order (x (with_index env base 0)) []
+rounds_told env base x u zero = refl
+rounds_told env base x u (suc n) =
+    ap₂ (λ (ds es : List Diag). placed diag_order ds es) (u (with_index env base (suc n)) (with_index env base 0) (index_differ env base (suc n) 0)) (rounds_told env base x u n)
+    ∙ told_again (x (with_index env base 0)) []
 
 at_least : (n : ℕ) → 1 ≤ n → (k : ℕ) × (n ≡ suc k)
 at_least zero w = absurd (omega (arith, w))
 at_least (suc k) w = (k, refl)
+
+some_told : (env : Env) (base : ℤ) (x : Finding) → FindingSame (length env) x → (n : ℕ) → 1 ≤ n → placed diag_order (x (with_index env base 0)) [] ≡ rounds_reported n base env x
+some_told env base x u n some =
+    let more = at_least n some in
+    sym (ap (λ (m : ℕ). rounds_reported m base env x) more.1 ∙ rounds_told env base x u more.0)
 
 -- ---- uses
 
@@ -67,15 +74,15 @@ alike_distinct env h t k known names some =
 
 -- ---- what is reported
 
-pub alike_abbreviations : (env : Env) (h : Head) (t : Trees) (k : KnownReplicator) → known_replicator h.form ≡ Some k → lines_depend (length env) t ≡ false
-    → times k.count (reported_of abbreviation_at t (with_index env k.base 0)) ≡ under_reported env h (reported_of abbreviation_at t)
-alike_abbreviations env h t k known names =
-    sym (rounds_under env h k (reported_of abbreviation_at t) known ∙ rounds_times env k.base (reported_of abbreviation_at t) (reported_abbreviation_same (length env) t names) k.count)
+pub alike_abbreviations : (env : Env) (h : Head) (t : Trees) (k : KnownReplicator) → known_replicator h.form ≡ Some k → lines_depend (length env) t ≡ false → 1 ≤ k.count
+    → placed diag_order (reported_of abbreviation_at t (with_index env k.base 0)) [] ≡ under_reported env h (reported_of abbreviation_at t)
+alike_abbreviations env h t k known names some =
+    some_told env k.base (reported_of abbreviation_at t) (reported_abbreviation_same (length env) t names) k.count some ∙ sym (rounds_under env h k (reported_of abbreviation_at t) known)
 
-alike_under : (env : Env) (h : Head) (t : Trees) (k : KnownReplicator) → known_replicator h.form ≡ Some k → lines_depend (length env) t ≡ false
-    → times k.count (reported_of parallel_at t (with_index env k.base 0)) ≡ under_reported env h (reported_of parallel_at t)
-alike_under env h t k known names =
-    sym (rounds_under env h k (reported_of parallel_at t) known ∙ rounds_times env k.base (reported_of parallel_at t) (reported_parallel_same (length env) t names) k.count)
+alike_under : (env : Env) (h : Head) (t : Trees) (k : KnownReplicator) → known_replicator h.form ≡ Some k → lines_depend (length env) t ≡ false → 1 ≤ k.count
+    → placed diag_order (reported_of parallel_at t (with_index env k.base 0)) [] ≡ under_reported env h (reported_of parallel_at t)
+alike_under env h t k known names some =
+    some_told env k.base (reported_of parallel_at t) (reported_parallel_same (length env) t names) k.count some ∙ sym (rounds_under env h k (reported_of parallel_at t) known)
 
 alike_components : (env : Env) (h : Head) (t : Trees) (k : KnownReplicator) → known_replicator h.form ≡ Some k → lines_depend (length env) t ≡ false
     → components env h (items_of t) ≡ replicate k.count (joined (items_of t (with_index env k.base 0)))
@@ -119,11 +126,11 @@ repeated_twice f n line env us compared more =
     ∙ ap (λ (m : ℕ). component_faults line env (replicate m us)) count.1
     ∙ copies_faults line env us count.0
 
--- what one round uses and reports, so often, with what the rounds have in common
-pub alike_parallel : (env : Env) (h : Head) (t : Trees) (k : KnownReplicator) (old mid new : List Diag) (us : List Use) → known_replicator h.form ≡ Some k → lines_depend (length env) t ≡ false
-    → mid ≡ old ++ times k.count (reported_of parallel_at t (with_index env k.base 0)) → us ≡ joined (items_of t (with_index env k.base 0))
+-- what one round uses and reports, with what the rounds have in common
+pub alike_parallel : (env : Env) (h : Head) (t : Trees) (k : KnownReplicator) (old mid new : List Diag) (us : List Use) → known_replicator h.form ≡ Some k → lines_depend (length env) t ≡ false → 1 ≤ k.count
+    → mid ≡ old ++ placed diag_order (reported_of parallel_at t (with_index env k.base 0)) [] → us ≡ joined (items_of t (with_index env k.base 0))
     → new ≡ mid ++ own_faults h.form h.place env (replicate k.count us)
     → new ≡ old ++ line_reported parallel_at env h t (reported_of parallel_at t)
-alike_parallel env h t k old mid new us known names is used told =
-    reported_by env h t old mid new (times k.count (reported_of parallel_at t (with_index env k.base 0))) (own_faults h.form h.place env (replicate k.count us)) is told (alike_under env h t k known names)
+alike_parallel env h t k old mid new us known names some is used told =
+    reported_by env h t old mid new (placed diag_order (reported_of parallel_at t (with_index env k.base 0)) []) (own_faults h.form h.place env (replicate k.count us)) is told (alike_under env h t k known names some)
     (sym (ap (λ (xs : List (List Use)). own_faults h.form h.place env xs) (alike_components env h t k known names ∙ ap (λ (vs : List Use). replicate k.count vs) (sym used))))

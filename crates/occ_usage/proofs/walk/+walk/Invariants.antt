@@ -13,8 +13,8 @@ invariant-rounds-loop-i l =
     (l.env ≡ l.initial.env)
     × ((parted l.sizes.items l.uses ≡ rounds_to l.i l.known.base l.initial.env (items_of (trees_of l.lines))) × (total l.sizes.items ≡ length l.uses))
     × (l.uses ≡ joined (rounds_to l.i l.known.base l.initial.env (items_of (trees_of l.lines))))
-    × (l.reported.parallel ≡ l.initial.reported.parallel ++ rounds_reported l.i l.known.base l.initial.env (reported_of parallel_at (trees_of l.lines)))
-    × (l.reported.abbreviations ≡ l.initial.reported.abbreviations ++ rounds_reported l.i l.known.base l.initial.env (reported_of abbreviation_at (trees_of l.lines)))
+    × (l.told.parallel.keys ≡ rounds_reported l.i l.known.base l.initial.env (reported_of parallel_at (trees_of l.lines)))
+    × (l.told.abbreviations.keys ≡ rounds_reported l.i l.known.base l.initial.env (reported_of abbreviation_at (trees_of l.lines)))
 
 abbrev pub invariant-items-loop-one : goal.invariant-items-loop-one
 invariant-items-loop-one l =
@@ -28,8 +28,8 @@ abbrev pub invariant-add_rounds-loop-index : goal.invariant-add_rounds-loop-inde
 invariant-add_rounds-loop-index l =
     (l.env ≡ l.initial.env)
     × (l.uses ≡ l.initial.uses ++ joined (rounds_to l.index l.known.base l.initial.env (items_of (trees_of l.lines))))
-    × (l.reported.parallel ≡ l.initial.reported.parallel ++ rounds_reported l.index l.known.base l.initial.env (reported_of parallel_at (trees_of l.lines)))
-    × (l.reported.abbreviations ≡ l.initial.reported.abbreviations ++ rounds_reported l.index l.known.base l.initial.env (reported_of abbreviation_at (trees_of l.lines)))
+    × (l.told.parallel.keys ≡ rounds_reported l.index l.known.base l.initial.env (reported_of parallel_at (trees_of l.lines)))
+    × (l.told.abbreviations.keys ≡ rounds_reported l.index l.known.base l.initial.env (reported_of abbreviation_at (trees_of l.lines)))
 
 abbrev pub invariant-add_items-loop-one : goal.invariant-add_items-loop-one
 invariant-add_items-loop-one l =
