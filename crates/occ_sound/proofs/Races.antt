@@ -200,7 +200,7 @@ put_silent (x ∷ there) d h = by (diag_order d x) refl h (put_silent there d) w
       → (IsSilent (insert_key diag_order there d) → IsOther d.code × IsSilent there) → IsOther d.code × IsSilent (x ∷ there)
   by Less e h rest = h
   by Equal e h rest = (subst (λ (y : Diag). IsOther y.code) (sym (same_diags d x e)) h.0, h)
-  by Greater e h rest = let r = rest h.1 in (r.0, h.0, r.1)
+  by Greater e h rest = let r = rest h.1 in (r.0, (h.0, r.1))
 
 placed_silent : (ds there : List Diag) → IsSilent (placed diag_order ds there) → IsSilent ds × IsSilent there
 placed_silent [] there h = (tt, h)

@@ -1,22 +1,15 @@
 -- Two diagnostics at one place of the order are one. So none is lost where they are put in order, and grades are told apart.
 use Rattle.std.proofs.Common.{◌≡◌, ◌∙◌, ◌⊎◌, ◌++◌, Bool, true, false, List, [], ◌∷◌, inl, inr, refl, ap, sym, subst}
-use denote.Enum.Bare.{same_true}
 use Rattle.std.specs.Prelude.{◌↔◌, ◌||◌, if◌then◌else◌}
 use Rattle.std.specs.BTreeSet.{insert_key}
-use Rattle.std.specs.Cmp.Lexicographic.{slice_cmp}
 use Rattle.std.specs.List.{Contains}
 use Rattle.std.specs.Cmp.{Equal-is}
-use Rattle.std.specs.Ordering.{is_eq, nat_cmp, ordering_reverse}
+use Rattle.std.specs.Ordering.{is_eq, ordering_reverse}
 use Rattle.std.specs.declared.cmp.Ordering.{Ordering}
 use Rattle.std.specs.declared.cmp.Ordering.TheVariants.{Less, Equal, Greater}
 use Rattle.occ_alias.specs.Grades.{all_unless_reported, checks_of, graded_as, graver, if_check, is_among, is_check, unless_reported, with_errors}
 use Rattle.occ_base.specs.Order.{diag_order}
-use Rattle.occ_base.specs.contracts.code.Code.{the_type}
-use Rattle.occ_base.specs.contracts.code.CodeOrd.TheImpl as code_ord
-use Rattle.occ_base.specs.contracts.code.CodeOrd.TheImpl.Laws as laws
-use Rattle.occ_base.specs.contracts.code.GradeOrd.TheImpl as grade_ord
 use Rattle.occ_base.specs.contracts.diag.DiagOrd.TheImpl.Laws.{total-law}
-use Rattle.occ_base.specs.declared.code.Code.{Code}
 use Rattle.occ_base.specs.declared.code.Grade.{Grade}
 use Rattle.occ_base.specs.declared.code.Grade.TheVariants as grade
 use Rattle.occ_base.specs.declared.diag.Diag.{Diag}
@@ -24,7 +17,6 @@ use Rattle.occ_check.specs.Order.{in_order}
 use Rattle.occ_theorems.specs.Orders.{by_parts}
 use Rattle.occ_usage.proofs.Exact.{same_diags}
 use Rattle.occ_theorems.proofs.Members.{Among, from_contains, from_insert, into_contains, new_insert, old_insert, placed_from, placed_into}
-use Rattle.occ_project_units.proofs.Rising.{equal_names}
 
 self_equal : (r : Ordering) → r ≡ ordering_reverse r → r ≡ Equal
 self_equal Less e = absurd cc

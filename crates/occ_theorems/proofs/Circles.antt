@@ -3,20 +3,16 @@ use Rattle.std.proofs.Common.{◌≡◌, ◌↔◌, ◌∙◌, ◌⊎◌, ◌||�
 use Rattle.std.proofs.lemmas.Slice.Eq.{bytes_eq-Decides}
 use Rattle.std.specs.BTreeSet.{insert_key}
 use Rattle.std.specs.List.{AllByRecursion, flat_map}
-use Rattle.std.specs.Option.{is_some, ok_or, option_cmp, option_map}
-use Rattle.std.specs.Ordering.{match_ordering, nat_cmp, ordering_then}
+use Rattle.std.specs.Option.{is_some, ok_or, option_map}
+use Rattle.std.specs.Ordering.{match_ordering}
 use Rattle.std.specs.Result.{result_err}
 use Rattle.std.specs.Str.{bytes_eq}
 use Rattle.std.specs.declared.cmp.Ordering.{Ordering}
 use Rattle.std.specs.declared.cmp.Ordering.TheVariants.{Less, Equal, Greater}
 use Rattle.occ_base.specs.FileName.{is_unit}
 use Rattle.occ_base.specs.Order.{diag_order, placed}
-use Rattle.occ_base.specs.contracts.code.CodeOrd.TheImpl as code_ord
-use Rattle.occ_base.specs.contracts.code.GradeOrd.TheImpl as grade_ord
 use Rattle.occ_base.specs.declared.code.Code.{Code}
 use Rattle.occ_base.specs.declared.code.Code.TheVariants as code
-use Rattle.occ_base.specs.declared.code.Grade.{Grade}
-use Rattle.occ_base.specs.declared.code.Grade.TheVariants as grade
 use Rattle.occ_base.specs.declared.diag.Diag.{Diag}
 use Rattle.occ_check.specs.Diagnostics.{diags_of, judged, unit_faults}
 use Rattle.occ_check.specs.Faults.{body_faults, line_faults, own_faults, standing as stands, reported_use, use_code, use_faults}
@@ -47,7 +43,6 @@ use Rattle.occ_check.specs.Report.{AreReporting}
 use Rattle.occ_check.specs.declared.checked.Checked.{Checked}
 use Rattle.occ_types.specs.declared.interface.Interface.{Interface}
 use Rattle.occ_project_units.proofs.Narrowed.{file_source}
-use Rattle.occ_project_units.proofs.Rising.{equal_names}
 use Rattle.occ_project_units.proofs.Spelled.{all_front, all_taken}
 use Rattle.occ_project_units.specs.Indices.{is_circular, standing_of}
 use Rattle.occ_project_units.specs.Project.{file_of}
