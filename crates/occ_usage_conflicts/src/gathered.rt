@@ -1,0 +1,114 @@
+//! Uses that are told at one line, each once, as they are found. Of those that are told already nothing is kept: rounds of a
+//! replicator that use the same take no memory.
+ghost use Rattle.std.specs.Prelude.{◌≡◌, [], IfOk, OnOk, length};
+ghost use Rattle.occ_usage_conflicts.specs.Distinct.{added, gathered as spec_gathered};
+ghost use Rattle.occ_usage_conflicts.specs.inside.Linking.{IsLinked};
+ghost use Rattle.occ_usage_values.specs.Uses.{at_line};
+
+use super::each_once::{Links, add_new, bucket_of_new};
+use super::same::Candidate;
+use occ_base::Items;
+use occ_project::Location;
+use occ_usage_values::Use;
+use std::alloc::{AllocError, Global};
+use std::marker::Model;
+
+/// Buckets for so many uses are made first.
+const FEW: usize = 8;
+
+/// Uses that are told at one line, each once: in contracts their list.
+#[derive(Drop)]
+pub struct Gathered {
+    links: Links,
+    found: Items<Use>,
+}
+
+impl Model for Gathered {
+    ghost use Rattle.std.specs.Prelude.{List};
+    ghost use Rattle.occ_usage_conflicts.specs.inside.Linking.{IsLinked};
+    ghost use Rattle.occ_usage_values.specs.declared.uses.Use.{Use};
+
+    ghost Value = { List Use };
+
+    ghost view = { λ g. g.found };
+
+    ghost invariant = { λ g. IsLinked g.links.heads.items g.links.before.items g.found };
+}
+
+/// Makes room for more uses, if there are as many as buckets.
+fn make_room(alloc: Global, links: &mut Links, found: &[Use]) -> Result<(), AllocError>
+    requires { IsLinked links.old.heads.items links.old.before.items found.now }
+    ensures { OnOk result (IsLinked links.new.heads.items links.new.before.items found.now) }
+{
+    if found.len() < links.count() {
+        return Ok(());
+    }
+    *links = Links::of(alloc, found)?;
+    Ok(())
+}
+
+/// One use more, told at a line, if it is not among those that are found.
+fn add(
+    alloc: Global,
+    one: &Use,
+    line: &Location,
+    links: &mut Links,
+    found: &mut Items<Use>,
+) -> Result<(), AllocError>
+    requires { IsLinked links.old.heads.items links.old.before.items found.old }
+    ensures found { OnOk result (found.new ≡ added (at_line one.now line.now) found.old) }
+    ensures links { OnOk result (IsLinked links.new.heads.items links.new.before.items found.new) }
+{
+    let moved = Candidate {
+        part: &one.part,
+        kind: one.kind,
+        line,
+        chain: &one.chain,
+    };
+    let Some(bucket) = bucket_of_new(&moved, links, found.as_slice()) else {
+        return Ok(());
+    };
+    let moved = one.at_line(alloc, line)?;
+    add_new(moved, bucket, links, found)?;
+    make_room(alloc, links, found.as_slice())
+}
+
+impl Gathered {
+    /// No use.
+    pub fn nothing(alloc: Global) -> Result<Gathered, AllocError>
+        ensures { IfOk result (λ gathered. gathered ≡ []) }
+    {
+        Ok(Gathered {
+            links: Links::none(alloc, FEW)?,
+            found: Items::new(alloc),
+        })
+    }
+
+    /// These uses too, told at the line.
+    pub fn add(&mut self, alloc: Global, uses: &[Use], line: &Location) -> Result<(), AllocError>
+        ensures { OnOk result (self.new ≡ spec_gathered line.now self.old uses.now) }
+    {
+        for one in uses {
+            add(alloc, one, line, &mut self.links, &mut self.found)?;
+        }
+        Ok(())
+    }
+
+    /// The uses.
+    pub fn into_uses(self) -> Items<Use>
+        ensures { result ≡ self }
+    {
+        let Gathered { links, found } = self;
+        drop(links);
+        found
+    }
+}
+
+/// These uses, told at a line, each once.
+pub fn gathered(alloc: Global, uses: &[Use], line: &Location) -> Result<Items<Use>, AllocError>
+    ensures { IfOk result (λ found. found ≡ spec_gathered line.now [] uses.now) }
+{
+    let mut found = Gathered::nothing(alloc)?;
+    found.add(alloc, uses, line)?;
+    Ok(found.into_uses())
+}
