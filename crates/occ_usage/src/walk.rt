@@ -30,7 +30,8 @@ use occ_scope::ScopeEntry;
 use occ_typing::{BlockKind, Typed, TypedForm, TypedLine};
 use occ_typing_statements::KnownReplicator;
 use occ_usage_conflicts::{
-    Gathered, append, append_joined, component_faults, gathered, outside_uses, parted_faults, twice_faults,
+    Gathered, append, append_joined, component_faults, gathered, outside_uses, parted_faults,
+    twice_faults,
 };
 use occ_usage_values::{Bound, Use};
 use std::alloc::{AllocError, Global};
@@ -248,13 +249,7 @@ fn compared_rounds(
     ensures parallel { OnOk result (reported.new.parallel ≡ reported.old.parallel ++ line_reported parallel_at env.old (head_of line.now) (spec_under line.now) (reported_of parallel_at (spec_under line.now))) }
     ensures abbreviations { OnOk result (reported.new.abbreviations ≡ reported.old.abbreviations ++ under_reported env.old (head_of line.now) (reported_of abbreviation_at (spec_under line.now))) }
 {
-    let EachRound { uses, sizes } = rounds(
-        alloc,
-        known,
-        line.under.as_slice(),
-        env,
-        reported,
-    )?;
+    let EachRound { uses, sizes } = rounds(alloc, known, line.under.as_slice(), env, reported)?;
     parted_faults(
         alloc,
         &line.place,

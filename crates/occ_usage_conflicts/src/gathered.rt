@@ -1,6 +1,6 @@
 //! Uses that are told at one line, each once, as they are found. Of those that are told already nothing is kept: rounds of a
 //! replicator that use the same take no memory.
-ghost use Rattle.std.specs.Prelude.{◌≡◌, [], IfOk, OnOk, length};
+ghost use Rattle.std.specs.Prelude.{◌≡◌, [], IfOk, OnOk};
 ghost use Rattle.occ_usage_conflicts.specs.Distinct.{added, gathered as spec_gathered};
 ghost use Rattle.occ_usage_conflicts.specs.inside.Linking.{IsLinked};
 ghost use Rattle.occ_usage_values.specs.Uses.{at_line};
@@ -9,6 +9,7 @@ use super::each_once::{Links, add_new, bucket_of_new};
 use super::same::Candidate;
 use occ_base::Items;
 use occ_project::Location;
+use occ_usage_parts::{Chain, Part, Selectors};
 use occ_usage_values::Use;
 use std::alloc::{AllocError, Global};
 use std::marker::Model;
@@ -21,6 +22,8 @@ const FEW: usize = 8;
 pub struct Gathered {
     links: Links,
     found: Items<Use>,
+    /// For each place in a round where the use that stood there last was put.
+    places: Items<usize>,
 }
 
 impl Model for Gathered {
@@ -47,11 +50,62 @@ fn make_room(alloc: Global, links: &mut Links, found: &[Use]) -> Result<(), Allo
     Ok(())
 }
 
-/// One use more, told at a line, if it is not among those that are found.
-fn add(
+/// The same chain as this: that of the use at the place, if it has the same.
+fn shared_chain(chain: &Chain, found: &[Use], place: usize) -> Result<Chain, AllocError>
+    ensures { IfOk result (λ same. same ≡ chain.now) }
+{
+    if let Some(other) = found.get(place) {
+        if other.chain.is_same(chain) {
+            return other.chain.share();
+        }
+    }
+    chain.share()
+}
+
+/// The same use, told at a line. It has the chain of the use at the place, if that is the same.
+fn moved(
     alloc: Global,
     one: &Use,
     line: &Location,
+    found: &[Use],
+    place: usize,
+) -> Result<Use, AllocError>
+    ensures { IfOk result (λ moved. moved ≡ at_line one.now line.now) }
+{
+    Ok(Use {
+        part: Part {
+            root: one.part.root,
+            selectors: Selectors::of(alloc, one.part.selectors.as_slice())?,
+        },
+        kind: one.kind,
+        line: line.share()?,
+        chain: shared_chain(&one.chain, found, place)?,
+    })
+}
+
+/// Where the use was put that stood last at this index of a round, or else where the next one will be.
+fn place_of(places: &mut Items<usize>, index: usize, next: usize) -> Result<usize, AllocError> {
+    if let Some(place) = places.get(index) {
+        return Ok(*place);
+    }
+    places.push(next)?;
+    Ok(next)
+}
+
+/// The use at this index of a round is put at a place.
+fn note(places: &mut Items<usize>, index: usize, place: usize) {
+    if index < places.len() {
+        places.set(index, place);
+    }
+}
+
+/// One use more, told at a line, if it is not among those that are found. It stands at this index in its round.
+fn add(
+    alloc: Global,
+    index: usize,
+    one: &Use,
+    line: &Location,
+    places: &mut Items<usize>,
     links: &mut Links,
     found: &mut Items<Use>,
 ) -> Result<(), AllocError>
@@ -59,17 +113,19 @@ fn add(
     ensures found { OnOk result (found.new ≡ added (at_line one.now line.now) found.old) }
     ensures links { OnOk result (IsLinked links.new.heads.items links.new.before.items found.new) }
 {
-    let moved = Candidate {
+    let place = place_of(places, index, found.len())?;
+    let told = Candidate {
         part: &one.part,
         kind: one.kind,
         line,
         chain: &one.chain,
     };
-    let Some(bucket) = bucket_of_new(&moved, links, found.as_slice()) else {
+    let Some(bucket) = bucket_of_new(&told, links, found.as_slice()) else {
         return Ok(());
     };
-    let moved = one.at_line(alloc, line)?;
-    add_new(moved, bucket, links, found)?;
+    let told = moved(alloc, one, line, found.as_slice(), place)?;
+    note(places, index, found.len());
+    add_new(told, bucket, links, found)?;
     make_room(alloc, links, found.as_slice())
 }
 
@@ -81,6 +137,7 @@ impl Gathered {
         Ok(Gathered {
             links: Links::none(alloc, FEW)?,
             found: Items::new(alloc),
+            places: Items::new(alloc),
         })
     }
 
@@ -88,8 +145,16 @@ impl Gathered {
     pub fn add(&mut self, alloc: Global, uses: &[Use], line: &Location) -> Result<(), AllocError>
         ensures { OnOk result (self.new ≡ spec_gathered line.now self.old uses.now) }
     {
-        for one in uses {
-            add(alloc, one, line, &mut self.links, &mut self.found)?;
+        for (index, one) in uses.iter().enumerate() {
+            add(
+                alloc,
+                index,
+                one,
+                line,
+                &mut self.places,
+                &mut self.links,
+                &mut self.found,
+            )?;
         }
         Ok(())
     }
@@ -98,8 +163,13 @@ impl Gathered {
     pub fn into_uses(self) -> Items<Use>
         ensures { result ≡ self }
     {
-        let Gathered { links, found } = self;
+        let Gathered {
+            links,
+            found,
+            places,
+        } = self;
         drop(links);
+        drop(places);
         found
     }
 }
