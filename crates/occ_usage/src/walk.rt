@@ -30,7 +30,7 @@ use occ_scope::ScopeEntry;
 use occ_typing::{BlockKind, Typed, TypedForm, TypedLine};
 use occ_typing_statements::KnownReplicator;
 use occ_usage_conflicts::{
-    Gathered, append, append_joined, component_faults, gathered, outside_uses, parted_faults,
+    Gathered, append, append_joined, component_faults, gather, outside_uses, parted_faults,
     twice_faults,
 };
 use occ_usage_values::{Bound, Use};
@@ -392,11 +392,11 @@ fn known_uses(
 {
     if let Some(known) = alike_rounds(line, env.len()) {
         let uses = alike_uses(alloc, known, line, env, reported)?;
-        return gathered(alloc, uses.as_slice(), &line.place);
+        return gather(alloc, uses.as_slice(), &line.place);
     }
     if is_parallel(line.form.get()) {
         let uses = compared_rounds(alloc, known, line, env, reported)?;
-        return gathered(alloc, uses.as_slice(), &line.place);
+        return gather(alloc, uses.as_slice(), &line.place);
     }
     gather_rounds(alloc, known, line, env, reported)
 }
@@ -420,7 +420,7 @@ fn replicated_uses(
     }
     let mut uses = Items::new(alloc);
     add_judged(alloc, line, env, &mut uses, reported)?;
-    gathered(alloc, uses.as_slice(), &line.place)
+    gather(alloc, uses.as_slice(), &line.place)
 }
 
 /// A PROC or a FUNCTION over lines that use these.

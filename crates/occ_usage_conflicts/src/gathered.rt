@@ -175,7 +175,7 @@ impl Gathered {
 }
 
 /// These uses, told at a line, each once.
-pub fn gathered(alloc: Global, uses: &[Use], line: &Location) -> Result<Items<Use>, AllocError>
+pub fn gather(alloc: Global, uses: &[Use], line: &Location) -> Result<Items<Use>, AllocError>
     ensures { IfOk result (λ found. found ≡ spec_gathered line.now [] uses.now) }
 {
     let mut found = Gathered::nothing(alloc)?;
