@@ -1,5 +1,6 @@
 -- Rounds of a replicator that no line under it names: what one of them uses and reports is what all do.
 use Rattle.std.proofs.Common.{◌≡◌, ◌∙◌, ◌++◌, ◌≤◌, ◌<◌, ℕ, zero, suc, ℤ, true, false, Some, List, [], ◌∷◌, length, replicate, OnOk, Result, Ok, Err, refl, ap, ap₂, sym, arith}
+use Rattle.std.proofs.lemmas.List.{append-nil}
 use Rattle.occ_base.specs.Order.{diag_order, placed}
 use Rattle.occ_base.specs.declared.diag.Diag.{Diag}
 use Rattle.occ_alias.specs.Entering.{index_value}
@@ -9,9 +10,9 @@ use Rattle.occ_typing.specs.BlockVariants as block
 use Rattle.occ_typing.specs.FormVariants as form
 use Rattle.occ_typing_statements.specs.declared.replicator_tree.KnownReplicator.{KnownReplicator}
 use Rattle.occ_usage_conflicts.specs.Components.{joined}
-use Rattle.occ_usage_conflicts.specs.Distinct.{distinct}
+use Rattle.occ_usage_conflicts.specs.Distinct.{gathered}
 use Rattle.occ_usage_conflicts.specs.ParallelRule.{component_faults}
-use Rattle.occ_usage_conflicts.proofs.Copies.{copies_distinct, copies_faults}
+use Rattle.occ_usage_conflicts.proofs.Copies.{copies_faults, copies_gathered}
 use Rattle.occ_usage_conflicts.proofs.Reaching.{few_faults}
 use Rattle.occ_usage_values.specs.Bounds.{Env}
 use Rattle.occ_usage_values.specs.Differing.{DifferAt}
@@ -63,14 +64,14 @@ some_told env base x u n some =
 
 -- ---- uses
 
-pub alike_distinct : (env : Env) (h : Head) (t : Trees) (k : KnownReplicator) → known_replicator h.form ≡ Some k → lines_depend (length env) t ≡ false → 1 ≤ k.count
-    → distinct (joined (items_of t (with_index env k.base 0))) ≡ distinct (joined (components env h (items_of t)))
-alike_distinct env h t k known names some =
+pub alike_gathered : (env : Env) (h : Head) (t : Trees) (k : KnownReplicator) → known_replicator h.form ≡ Some k → lines_depend (length env) t ≡ false → 1 ≤ k.count
+    → gathered h.place [] (joined (items_of t (with_index env k.base 0))) ≡ gathered h.place [] (joined (components env h (items_of t)))
+alike_gathered env h t k known names some =
     let us = joined (items_of t (with_index env k.base 0)) in
     let more = at_least k.count some in
-    sym (ap (λ (xs : List (List Use)). distinct (joined xs)) (rounds_components env h k (items_of t) known ∙ rounds_copies env k.base (items_of t) (items_of_same (length env) t names) k.count)
-    ∙ ap (λ (n : ℕ). distinct (joined (replicate n us))) more.1
-    ∙ copies_distinct more.0 us)
+    sym (ap (λ (xs : List (List Use)). gathered h.place [] (joined xs)) (rounds_components env h k (items_of t) known ∙ rounds_copies env k.base (items_of t) (items_of_same (length env) t names) k.count)
+    ∙ ap (λ (n : ℕ). gathered h.place [] (joined (replicate n us))) more.1
+    ∙ copies_gathered h.place more.0 us)
 
 -- ---- what is reported
 
@@ -134,3 +135,10 @@ pub alike_parallel : (env : Env) (h : Head) (t : Trees) (k : KnownReplicator) (o
 alike_parallel env h t k old mid new us known names some is used told =
     reported_by env h t old mid new (placed diag_order (reported_of parallel_at t (with_index env k.base 0)) []) (own_faults h.form h.place env (replicate k.count us)) is told (alike_under env h t k known names some)
     (sym (ap (λ (xs : List (List Use)). own_faults h.form h.place env xs) (alike_components env h t k known names ∙ ap (λ (vs : List Use). replicate k.count vs) (sym used))))
+
+-- rounds that are not compared
+pub sequence_parallel : (env : Env) (h : Head) (t : Trees) (k : KnownReplicator) (old new : List Diag) → known_replicator h.form ≡ Some k → are_compared h.form ≡ false
+    → new ≡ old ++ rounds_reported k.count k.base env (reported_of parallel_at t) → new ≡ old ++ line_reported parallel_at env h t (reported_of parallel_at t)
+sequence_parallel env h t k old new known apart told =
+    reported_by env h t old new new (rounds_reported k.count k.base env (reported_of parallel_at t)) [] told (sym (append-nil new))
+    (sym (rounds_under env h k (reported_of parallel_at t) known)) (sym (own_none h.form k h.place env (components env h (items_of t)) known apart))

@@ -97,7 +97,7 @@ components_same d h under u = components_by_same d (known_replicator h.form) h u
 
 line_uses_same : (d : ℕ) (h : Head) (under : Under) → form_depends d h.form ≡ false → UnderSame d under → IsSame d (λ env. line_uses env h under)
 line_uses_same d h under own u e f m =
-    ap₂ (λ (us vs : List Use). us ++ vs) (form_uses_same d h.form own h.place e f m) (ap (λ (xs : List (List Use)). under_uses h.form (joined xs)) (components_same d h under u e f m))
+    ap₂ (λ (us vs : List Use). us ++ vs) (form_uses_same d h.form own h.place e f m) (ap (λ (xs : List (List Use)). under_uses h.form h.place (joined xs)) (components_same d h under u e f m))
 
 body_over_same : (d : ℕ) (h : Head) (e f : Env) → DifferAt d e f → (us vs : List Use) (does is : Bool) → us ≡ vs → does ≡ is → body_over e h us does ≡ body_over f h vs is
 body_over_same d h e f m us vs does is p q =

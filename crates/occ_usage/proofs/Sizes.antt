@@ -6,10 +6,13 @@ use Rattle.occ_base.specs.declared.diag.Diag.{Diag}
 use Rattle.occ_usage_values.specs.Bounds.{Env}
 use Rattle.occ_usage_values.specs.declared.uses.Use.{Use}
 use Rattle.occ_usage_conflicts.specs.Components.{joined, parted}
+use Rattle.occ_usage_conflicts.specs.Distinct.{gathered}
+use Rattle.occ_usage_conflicts.proofs.Copies.{gathered_both}
+use Rattle.occ_project.specs.declared.expanded.Location.{Location}
 use Rattle.occ_usage.specs.Lines.{Under, items_of, rounds_to, with_index}
 use Rattle.occ_usage.specs.Trees.{Trees}
 use Rattle.occ_usage.specs.Walk.{Rule, Finding, rounds_reported, reported_of}
-use Rattle.occ_usage.proofs.Walking.{joined_more}
+use Rattle.occ_usage.proofs.Walking.{joined_after, joined_more}
 
 abbrev pub total : List ℕ → ℕ
 total [] = 0
@@ -60,6 +63,16 @@ pub uses_step : (i : ℕ) (base : ℤ) (start env : Env) (t : Trees) (old us mor
 uses_step i base start env t old us more same before is =
     joined_more old us more (joined (items_of t (with_index start base i))) (rounds_to i base start (items_of t)) before (is ∙ ap (λ (e : Env). us ++ joined (items_of t (with_index e base i))) same)
     ∙ ap (λ (xs : List (List Use)). old ++ joined xs) (sym (round_more i base start (items_of t)))
+
+pub gather_step : (place : Location) (i : ℕ) (base : ℤ) (start env : Env) (t : Trees) (us own more : List Use) → env ≡ start
+    → us ≡ gathered place [] (joined (rounds_to i base start (items_of t))) → own ≡ joined (items_of t (with_index env base i)) → more ≡ gathered place us own
+    → more ≡ gathered place [] (joined (rounds_to (i + 1) base start (items_of t)))
+gather_step place i base start env t us own more same before used is =
+    is ∙ ap (gathered place us) (used ∙ ap (λ (e : Env). joined (items_of t (with_index e base i))) same)
+    ∙ ap (λ (vs : List Use). gathered place vs (joined (items_of t (with_index start base i)))) before
+    ∙ sym (gathered_both place (joined (rounds_to i base start (items_of t))) (joined (items_of t (with_index start base i))) [])
+    ∙ ap (gathered place []) (sym (joined_after (rounds_to i base start (items_of t)) (joined (items_of t (with_index start base i)))))
+    ∙ ap (λ (xs : List (List Use)). gathered place [] (joined xs)) (sym (round_more i base start (items_of t)))
 
 pub sizes_step : (i : ℕ) (base : ℤ) (start env : Env) (t : Trees) (ns ms : List ℕ) (us more : List Use) (n : ℕ) → env ≡ start
     → (parted ns us ≡ rounds_to i base start (items_of t)) × (total ns ≡ length us) → more ≡ us ++ joined (items_of t (with_index env base i))

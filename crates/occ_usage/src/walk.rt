@@ -130,20 +130,26 @@ fn gather_rounds(
     env: &mut UsageScope,
     reported: &mut Finding,
 ) -> Result<Items<Use>, AllocError>
-    requires { spec_known_replicator (head_of line.now).form ≡ Some known }
-    ensures uses { IfOk result (λ uses. uses ≡ spec_gathered (head_of line.now).place [] (spec_joined (spec_components env.old (head_of line.now) (items_of (spec_under line.now))))) }
+    ensures uses { IfOk result (λ uses. uses ≡ spec_gathered (head_of line.now).place [] (spec_joined (rounds_to known.count known.base env.old (items_of (spec_under line.now))))) }
     ensures env { OnOk result (env.new ≡ env.old) }
-    ensures parallel { OnOk result (reported.new.parallel ≡ reported.old.parallel ++ under_reported env.old (head_of line.now) (reported_of parallel_at (spec_under line.now))) }
-    ensures abbreviations { OnOk result (reported.new.abbreviations ≡ reported.old.abbreviations ++ under_reported env.old (head_of line.now) (reported_of abbreviation_at (spec_under line.now))) }
+    ensures parallel { OnOk result (reported.new.parallel ≡ reported.old.parallel ++ rounds_reported known.count known.base env.old (reported_of parallel_at (spec_under line.now))) }
+    ensures abbreviations { OnOk result (reported.new.abbreviations ≡ reported.old.abbreviations ++ rounds_reported known.count known.base env.old (reported_of abbreviation_at (spec_under line.now))) }
 {
-    let lines = line.under.as_slice();
     let mut uses = Gathered::nothing(alloc)?;
     let mut told = Told::nothing(alloc);
     for index in 0..known.count {
         let mut own = Items::new(alloc);
         let mut found = Finding::nothing(alloc);
-        add_round(alloc, known.base, index, lines, env, &mut own, &mut found)?;
-        uses.add(alloc, own.as_slice(), &line.place)?;
+        add_round(
+            alloc,
+            known.base,
+            index,
+            line.under.as_slice(),
+            env,
+            &mut own,
+            &mut found,
+        )?;
+        uses = uses.with(alloc, own.as_slice(), &line.place)?;
         told.add(found)?;
     }
     reported.report(alloc, told)?;

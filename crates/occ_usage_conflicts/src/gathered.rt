@@ -129,6 +129,25 @@ fn add(
     make_room(alloc, links, found.as_slice())
 }
 
+/// These uses too, told at a line.
+fn add_all(
+    alloc: Global,
+    uses: &[Use],
+    line: &Location,
+    places: &mut Items<usize>,
+    links: &mut Links,
+    found: &mut Items<Use>,
+) -> Result<(), AllocError>
+    requires { IsLinked links.old.heads.items links.old.before.items found.old }
+    ensures found { OnOk result (found.new ≡ spec_gathered line.now found.old uses.now) }
+    ensures links { OnOk result (IsLinked links.new.heads.items links.new.before.items found.new) }
+{
+    for (index, one) in uses.iter().enumerate() {
+        add(alloc, index, one, line, places, links, found)?;
+    }
+    Ok(())
+}
+
 impl Gathered {
     /// No use.
     pub fn nothing(alloc: Global) -> Result<Gathered, AllocError>
@@ -141,22 +160,21 @@ impl Gathered {
         })
     }
 
-    /// These uses too, told at the line.
-    pub fn add(&mut self, alloc: Global, uses: &[Use], line: &Location) -> Result<(), AllocError>
-        ensures { OnOk result (self.new ≡ spec_gathered line.now self.old uses.now) }
+    /// With these uses too, told at the line.
+    pub fn with(self, alloc: Global, uses: &[Use], line: &Location) -> Result<Gathered, AllocError>
+        ensures { IfOk result (λ more. more ≡ spec_gathered line.now self uses.now) }
     {
-        for (index, one) in uses.iter().enumerate() {
-            add(
-                alloc,
-                index,
-                one,
-                line,
-                &mut self.places,
-                &mut self.links,
-                &mut self.found,
-            )?;
-        }
-        Ok(())
+        let Gathered {
+            mut links,
+            mut found,
+            mut places,
+        } = self;
+        add_all(alloc, uses, line, &mut places, &mut links, &mut found)?;
+        Ok(Gathered {
+            links,
+            found,
+            places,
+        })
     }
 
     /// The uses.
@@ -178,7 +196,6 @@ impl Gathered {
 pub fn gather(alloc: Global, uses: &[Use], line: &Location) -> Result<Items<Use>, AllocError>
     ensures { IfOk result (λ found. found ≡ spec_gathered line.now [] uses.now) }
 {
-    let mut found = Gathered::nothing(alloc)?;
-    found.add(alloc, uses, line)?;
+    let found = Gathered::nothing(alloc)?.with(alloc, uses, line)?;
     Ok(found.into_uses())
 }

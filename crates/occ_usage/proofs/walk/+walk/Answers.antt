@@ -1,13 +1,13 @@
 use Rattle.std.proofs.Common.{rules, ◌≡◌, ◌∙◌, ◌-◌, ◌++◌, ◌∷◌, [], List, ap, refl, length, replicate}
 use Rattle.occ_base.specs.Order.{diag_order, placed}
 use Rattle.occ_base.specs.declared.diag.Diag.{Diag}
-use Rattle.occ_usage.proofs.Repeated.{alike_abbreviations, alike_distinct, alike_parallel}
-use Rattle.occ_usage.proofs.Sizes.{sizes_step, told_step, uses_step}
+use Rattle.occ_usage.proofs.Repeated.{alike_abbreviations, alike_gathered, alike_parallel, sequence_parallel}
+use Rattle.occ_usage.proofs.Sizes.{gather_step, sizes_step, told_step, uses_step}
 use Rattle.occ_usage.proofs.Trees.{from_line}
 use Rattle.occ_usage.proofs.Walking.{end_after, end_stands, step_items, step_joined, step_reported}
 use Rattle.occ_usage.specs.AbbreviationRule.{abbreviation_at}
 use Rattle.occ_usage_conflicts.specs.Components.{joined}
-use Rattle.occ_usage_conflicts.specs.Distinct.{distinct}
+use Rattle.occ_usage_conflicts.specs.Distinct.{gathered}
 use Rattle.occ_usage.specs.Lines.{ends_item, items_of, with_index}
 use Rattle.occ_usage.specs.Walk.{reported_of}
 use Rattle.occ_usage.specs.ParallelRule.{own_faults, parallel_at}
@@ -50,17 +50,17 @@ add_items-loop-one-preserved t c =
       step_reported abbreviation_at h u _ _ _ _ _ _ _ _ split c.loop-one.invariant.4 c.in_ok-line.ensures.abbreviations following,
     )
 
-pub add_rounds-loop-index-preserved : goal.add_rounds-loop-index-preserved
-add_rounds-loop-index-preserved t c =
+pub gather_rounds-loop-index-preserved : goal.gather_rounds-loop-index-preserved
+gather_rounds-loop-index-preserved t c =
     let same = c.loop-index.invariant.0 in
     let i = c.loop-index.index in
     let base = c.args.known.base in
-    let lines = trees_of c.args.lines.now in
-    let used : c.add_round.new.uses ≡ c.loop-index.uses ++ joined (items_of (trees_of c.args.lines.now) (with_index c.loop-index.env c.args.known.base c.loop-index.index)) = search rules in
-    let parallel : c.add_round.new.reported.parallel ≡ reported_of parallel_at (trees_of c.args.lines.now) (with_index c.loop-index.env c.args.known.base c.loop-index.index) = search rules in
-    let abbreviations : c.add_round.new.reported.abbreviations ≡ reported_of abbreviation_at (trees_of c.args.lines.now) (with_index c.loop-index.env c.args.known.base c.loop-index.index) = search rules in (
+    let lines = under c.args.line.now in
+    let used : c.add_round.new.uses ≡ joined (items_of (under c.args.line.now) (with_index c.loop-index.env c.args.known.base c.loop-index.index)) = search rules in
+    let parallel : c.add_round.new.reported.parallel ≡ reported_of parallel_at (under c.args.line.now) (with_index c.loop-index.env c.args.known.base c.loop-index.index) = search rules in
+    let abbreviations : c.add_round.new.reported.abbreviations ≡ reported_of abbreviation_at (under c.args.line.now) (with_index c.loop-index.env c.args.known.base c.loop-index.index) = search rules in (
       c.in_ok-add_round.ensures.env ∙ same,
-      uses_step i base _ _ lines _ _ _ same c.loop-index.invariant.1 used,
+      gather_step (head_of c.args.line.now).place i base _ _ lines _ _ _ same c.loop-index.invariant.1 used (search rules),
       told_step parallel_at i base _ _ lines _ _ _ same c.loop-index.invariant.2 parallel c.in_ok-add.ensures.parallel,
       told_step abbreviation_at i base _ _ lines _ _ _ same c.loop-index.invariant.3 abbreviations c.in_ok-add.ensures.abbreviations,
     )
@@ -85,7 +85,7 @@ rounds-loop-i-preserved t c =
 pub alike_uses-returns-clause-uses : goal.alike_uses-returns-clause-uses
 alike_uses-returns-clause-uses t c =
     let used : c.add_round.new.uses ≡ joined (items_of (under c.args.line.now) (with_index c.args.env.now c.args.known.base 0)) = search rules in
-    ap distinct used ∙ alike_distinct c.args.env.now (head_of c.args.line.now) (under c.args.line.now) c.args.known c.requires.known c.requires.alike c.requires.some
+    ap (gathered (head_of c.args.line.now).place []) used ∙ alike_gathered c.args.env.now (head_of c.args.line.now) (under c.args.line.now) c.args.known c.requires.known c.requires.alike c.requires.some
 
 pub alike_uses-returns-clause-parallel : goal.alike_uses-returns-clause-parallel
 alike_uses-returns-clause-parallel t c =
