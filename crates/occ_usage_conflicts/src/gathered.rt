@@ -17,7 +17,7 @@ use std::marker::Model;
 /// Buckets for so many uses are made first.
 const FEW: usize = 8;
 
-/// Uses that are told at one line, each once: in contracts their list.
+/// Uses of rounds that are told at one line, each once: in contracts their list.
 #[derive(Drop)]
 pub struct Gathered {
     links: Links,
@@ -38,12 +38,12 @@ impl Model for Gathered {
     ghost invariant = { λ g. IsLinked g.links.heads.items g.links.before.items g.found };
 }
 
-/// Makes room for more uses, if there are as many as buckets.
+/// Makes room for more uses, if there are more than buckets.
 fn make_room(alloc: Global, links: &mut Links, found: &[Use]) -> Result<(), AllocError>
     requires { IsLinked links.old.heads.items links.old.before.items found.now }
     ensures { OnOk result (IsLinked links.new.heads.items links.new.before.items found.now) }
 {
-    if found.len() < links.count() {
+    if found.len() <= links.count() {
         return Ok(());
     }
     *links = Links::of(alloc, found)?;
@@ -99,13 +99,12 @@ fn note(places: &mut Items<usize>, index: usize, place: usize) {
     }
 }
 
-/// One use more, told at a line, if it is not among those that are found. It stands at this index in its round.
+/// One use more, told at a line, if it is not among those that are found. It may have the chain of the use at the place.
 fn add(
     alloc: Global,
-    index: usize,
     one: &Use,
     line: &Location,
-    places: &mut Items<usize>,
+    place: usize,
     links: &mut Links,
     found: &mut Items<Use>,
 ) -> Result<(), AllocError>
@@ -113,7 +112,6 @@ fn add(
     ensures found { OnOk result (found.new ≡ added (at_line one.now line.now) found.old) }
     ensures links { OnOk result (IsLinked links.new.heads.items links.new.before.items found.new) }
 {
-    let place = place_of(places, index, found.len())?;
     let told = Candidate {
         part: &one.part,
         kind: one.kind,
@@ -124,13 +122,12 @@ fn add(
         return Ok(());
     };
     let told = moved(alloc, one, line, found.as_slice(), place)?;
-    note(places, index, found.len());
     add_new(told, bucket, links, found)?;
     make_room(alloc, links, found.as_slice())
 }
 
-/// These uses too, told at a line.
-fn add_all(
+/// The uses of one round more, told at a line.
+fn add_round(
     alloc: Global,
     uses: &[Use],
     line: &Location,
@@ -143,7 +140,30 @@ fn add_all(
     ensures links { OnOk result (IsLinked links.new.heads.items links.new.before.items found.new) }
 {
     for (index, one) in uses.iter().enumerate() {
-        add(alloc, index, one, line, places, links, found)?;
+        let next = found.len();
+        let place = place_of(places, index, next)?;
+        add(alloc, one, line, place, links, found)?;
+        if found.len() > next {
+            note(places, index, next);
+        }
+    }
+    Ok(())
+}
+
+/// These uses, told at a line.
+fn add_all(
+    alloc: Global,
+    uses: &[Use],
+    line: &Location,
+    links: &mut Links,
+    found: &mut Items<Use>,
+) -> Result<(), AllocError>
+    requires { IsLinked links.old.heads.items links.old.before.items found.old }
+    ensures { OnOk result (found.new ≡ spec_gathered line.now found.old uses.now) }
+{
+    for one in uses {
+        let next = found.len();
+        add(alloc, one, line, next, links, found)?;
     }
     Ok(())
 }
@@ -160,7 +180,7 @@ impl Gathered {
         })
     }
 
-    /// With these uses too, told at the line.
+    /// With the uses of one round more, told at the line.
     pub fn with(self, alloc: Global, uses: &[Use], line: &Location) -> Result<Gathered, AllocError>
         ensures { IfOk result (λ more. more ≡ spec_gathered line.now self uses.now) }
     {
@@ -169,7 +189,7 @@ impl Gathered {
             mut found,
             mut places,
         } = self;
-        add_all(alloc, uses, line, &mut places, &mut links, &mut found)?;
+        add_round(alloc, uses, line, &mut places, &mut links, &mut found)?;
         Ok(Gathered {
             links,
             found,
@@ -196,6 +216,8 @@ impl Gathered {
 pub fn gather(alloc: Global, uses: &[Use], line: &Location) -> Result<Items<Use>, AllocError>
     ensures { IfOk result (λ found. found ≡ spec_gathered line.now [] uses.now) }
 {
-    let found = Gathered::nothing(alloc)?.with(alloc, uses, line)?;
-    Ok(found.into_uses())
+    let mut links = Links::none(alloc, uses.len())?;
+    let mut found = Items::from_vec(Vec::with_capacity(alloc, uses.len())?);
+    add_all(alloc, uses, line, &mut links, &mut found)?;
+    Ok(found)
 }
