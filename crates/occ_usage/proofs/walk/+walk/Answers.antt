@@ -1,7 +1,7 @@
 use Rattle.std.proofs.Common.{rules, ◌≡◌, ◌∙◌, ◌-◌, ◌++◌, ◌∷◌, [], List, ap, refl, length, replicate}
 use Rattle.occ_base.specs.Order.{diag_order, placed}
 use Rattle.occ_base.specs.declared.diag.Diag.{Diag}
-use Rattle.occ_usage.proofs.Repeated.{alike_abbreviations, alike_gathered, alike_parallel, sequence_parallel}
+use Rattle.occ_usage.proofs.Repeated.{alike_abbreviations, alike_gathered, alike_parallel}
 use Rattle.occ_usage.proofs.Sizes.{gather_step, sizes_step, told_step, uses_step}
 use Rattle.occ_usage.proofs.Trees.{from_line}
 use Rattle.occ_usage.proofs.Walking.{end_after, end_stands, step_items, step_joined, step_reported}
