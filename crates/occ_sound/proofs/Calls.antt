@@ -5,7 +5,7 @@ use Rattle.occ_project.specs.declared.expanded.Location.{Location}
 use Rattle.occ_typing_rules.specs.declared.expr.Selector.TheOpen.{TypedActual-F}
 use Rattle.occ_typing_rules.specs.declared.expr.TypedActual.{TypedActual, out-TypedActual}
 use Rattle.occ_usage_conflicts.specs.Bodies.{body_uses, from_outside, outside}
-use Rattle.occ_usage_conflicts.specs.Distinct.{distinct, is_among, same_use}
+use Rattle.occ_usage_conflicts.specs.Distinct.{added, distinct, gathered, is_among, same_use}
 use Rattle.occ_usage_conflicts.proofs.Equality.{same_exactly}
 use Rattle.occ_usage_parts.specs.declared.place.SelectedPart.{SelectedPart}
 use Rattle.occ_usage_parts.specs.Selecting.{followed_by, part_of}
@@ -44,6 +44,20 @@ pub distinct_keeps : (us : List Use) (x : Use) → IsOneOf us x → IsOneOf (dis
 distinct_keeps [] x h = h
 distinct_keeps (u ∷ us) x (inl h) = added_keeps u x (distinct us) (is_among (distinct us) u) refl (inl h)
 distinct_keeps (u ∷ us) x (inr h) = added_keeps u x (distinct us) (is_among (distinct us) u) refl (inr (distinct_keeps us x h))
+
+-- ---- uses of one line
+
+gathered_stays : (line : Location) (us found : List Use) (x : Use) → IsOneOf found x → IsOneOf (gathered line found us) x
+gathered_stays line [] found x h = h
+gathered_stays line (u ∷ us) found x h =
+    gathered_stays line us (added (at_line u line) found) x (added_keeps (at_line u line) x found (is_among found (at_line u line)) refl (inr h))
+
+pub gathered_keeps : (line : Location) (us found : List Use) (x : Use) → IsOneOf us x → IsOneOf (gathered line found us) (at_line x line)
+gathered_keeps line [] found x h = absurd h
+gathered_keeps line (u ∷ us) found x (inl h) =
+    gathered_stays line us (added (at_line u line) found) (at_line x line)
+    (added_keeps (at_line u line) (at_line x line) found (is_among found (at_line u line)) refl (inl (ap (λ (z : Use). at_line z line) h)))
+gathered_keeps line (u ∷ us) found x (inr h) = gathered_keeps line us (added (at_line u line) found) x h
 
 -- ---- a body from outside
 

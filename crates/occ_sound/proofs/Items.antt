@@ -14,7 +14,8 @@ use Rattle.occ_typing_lines.specs.declared.tree.TypedForm.{TypedForm}
 use Rattle.occ_typing_lines.specs.declared.tree.TypedForm.TheVariants as form
 use Rattle.occ_typing_statements.specs.declared.replicator_tree.TypedReplicator.{TypedReplicator}
 use Rattle.occ_usage_conflicts.specs.Components.{joined}
-use Rattle.occ_usage_conflicts.specs.Distinct.{distinct}
+use Rattle.occ_usage_conflicts.specs.Distinct.{gathered}
+use Rattle.occ_usage_values.specs.Uses.{at_line}
 use Rattle.occ_usage_lines.specs.Entering.{access_bound, entry_bounds, index_value, meaning_bound}
 use Rattle.occ_usage_lines.specs.Forms.{form_uses, replicator_uses}
 use Rattle.occ_usage_values.specs.Bounds.{Env}
@@ -31,9 +32,9 @@ use Rattle.occ_running.specs.Works as works
 use Rattle.occ_running.specs.Works.{Choice, EntersIndex, Idle, InTurn, IsIndex, IsIndexBy, Piece, Plan, Taken, Tells, Together, Waiting, Way, behind_line, index_at, items_behind, plan, replicator_of, rounds}
 use Rattle.occ_sound.specs.Agreeing.{Covered}
 use Rattle.occ_sound.specs.Covering.{Allows, AllowsOne, item_uses}
-use Rattle.occ_sound.proofs.Calls.{distinct_keeps}
+use Rattle.occ_sound.proofs.Calls.{gathered_keeps}
 use Rattle.occ_sound.proofs.Lists.{in_cases, in_left, in_right, no_more}
-use Rattle.occ_sound.proofs.Touching.{covered_in}
+use Rattle.occ_sound.proofs.Touching.{HasAlike, alike_here, alike_in, covered_alike}
 
 pub first_tree : (l : TypedLine) (ls : List TypedLine) → trees_of (l ∷ ls) ≡ Tree (head_of l) (under l) (trees_of ls)
 first_tree l ls = ap (λ (t : Trees → Trees). t (trees_of ls)) (fold_out-TypedLine (Trees → Trees) tree_step l)
@@ -335,26 +336,29 @@ planned_no_body way (form.Results es) p h = refl
 
 -- ---- a line with those under it
 
-in_replicated : (u : Use) (us : List Use) (t : Bool) → IsOneOf us u → IsOneOf (if t then distinct us else us) u
-in_replicated u us true h = distinct_keeps us u h
-in_replicated u us false h = h
+in_replicated : (place : Location) (u : Use) (us : List Use) (t : Bool) → IsOneOf us u → HasAlike (if t then gathered place [] us else us) u
+in_replicated place u us true h = record { u = at_line u place; among = gathered_keeps place us [] u h; part = refl; kind = refl }
+in_replicated place u us false h = alike_here us u h
 
-in_under : (u : Use) (us : List Use) (t replicated : Bool) → t ≡ false → IsOneOf us u → IsOneOf (if t then [] else if replicated then distinct us else us) u
-in_under u us false replicated e h = in_replicated u us replicated h
-in_under u us true replicated e h = absurd (let no : true ≡ false = e in cc)
+in_under : (place : Location) (u : Use) (us : List Use) (t replicated : Bool) → t ≡ false → IsOneOf us u → HasAlike (if t then [] else if replicated then gathered place [] us else us) u
+in_under place u us false replicated e h = in_replicated place u us replicated h
+in_under place u us true replicated e h = absurd (let no : true ≡ false = e in cc)
 
 pub under_in_line : (env : Env) (l : TypedLine) (u : Use) → is_body (out-TypedLine l).form ≡ false
-    → IsOneOf (form_uses (head_of l).form env (head_of l).place ++ joined (components env (head_of l) (items_of (under l)))) u → IsOneOf (own_uses env l) u
-under_in_line env l u e i = elim (in_cases u (form_uses (head_of l).form env (head_of l).place) (joined (components env (head_of l) (items_of (under l)))) i) [
-  | inl a ↦ in_left u (form_uses (head_of l).form env (head_of l).place) (under_uses (head_of l).form (joined (components env (head_of l) (items_of (under l))))) a
-  | inr c ↦ in_right u (form_uses (head_of l).form env (head_of l).place) (under_uses (head_of l).form (joined (components env (head_of l) (items_of (under l)))))
-      (in_under u (joined (components env (head_of l) (items_of (under l)))) (is_body (head_of l).form) (is_replicated (head_of l).form) e c)
-]
+    → IsOneOf (form_uses (head_of l).form env (head_of l).place ++ joined (components env (head_of l) (items_of (under l)))) u → HasAlike (own_uses env l) u
+under_in_line env l u e i =
+    let own = form_uses (head_of l).form env (head_of l).place in
+    let below = joined (components env (head_of l) (items_of (under l))) in
+    let told = under_uses (head_of l).form (head_of l).place below in
+    elim (in_cases u own below i) [
+      | inl a ↦ alike_here (own ++ told) u (in_left u own told a)
+      | inr c ↦ alike_in told (own ++ told) u (λ v k. in_right v own told k) (in_under (head_of l).place u below (is_body (head_of l).form) (is_replicated (head_of l).form) e c)
+    ]
 
 pub line_covered : (env : Env) (d : Scope) (t : Thread) (l : TypedLine) (x : Event) → is_body (out-TypedLine l).form ≡ false
     → Covered d t (form_uses (head_of l).form env (head_of l).place ++ joined (components env (head_of l) (items_of (under l)))) x → Covered d t (own_uses env l) x
 line_covered env d t l x e h =
-    covered_in d t (form_uses (head_of l).form env (head_of l).place ++ joined (components env (head_of l) (items_of (under l)))) (own_uses env l) x (λ u i. under_in_line env l u e i) h
+    covered_alike d t (form_uses (head_of l).form env (head_of l).place ++ joined (components env (head_of l) (items_of (under l)))) (own_uses env l) x (λ u i. under_in_line env l u e i) h
 
 pub in_joined : (comps : List (List Use)) (k : ℕ) (us : List Use) (u : Use) → slice_get comps k ≡ Some us → IsOneOf us u → IsOneOf (joined comps) u
 in_joined [] k us u h i = cc

@@ -37,6 +37,7 @@ use Rattle.occ_sound.proofs.Cells.{meeting, own_number}
 use Rattle.occ_sound.proofs.Covers.{AreHere, IsHere, extends_itself, part_cases, root_below}
 use Rattle.occ_sound.proofs.Knowing.{Good}
 use Rattle.occ_sound.proofs.Lists.{get_behind, get_below, get_cases, get_front, get_taken, got_in, in_left, in_right, length_last, none_some, some_same, take_length, take_more, take_take}
+use Rattle.occ_sound.proofs.Touching.{HasAlike}
 use Rattle.occ_sound.proofs.Names.{Kept, agrees_length, formals_agree, stands}
 
 -- ---- threads
@@ -114,6 +115,13 @@ apart_not_counted p q h k = let e : false ≡ true = ap (counts least.May) (sym 
 
 pub separate_in : (d : Scope) (us vs : List Use) → ((u : Use) → IsOneOf vs u → IsOneOf us u) → Separate d us → Separate d vs
 separate_in d us vs f h u v i j differ c x y = h u v (f u i) (f v j) differ c x y
+
+pub separate_alike : (d : Scope) (us vs : List Use) → ((u : Use) → IsOneOf vs u → HasAlike us u) → Separate d us → Separate d vs
+separate_alike d us vs f h u v i j differ c x y =
+    let a = f u i in
+    let b = f v j in
+    h a.u b.u a.among b.among (λ e. differ (ap (λ (p : Part). p.root) (sym a.part) ∙ e ∙ ap (λ (p : Part). p.root) b.part)) c
+    (subst (λ (p : Part). InPart d p c) (sym a.part) x) (subst (λ (p : Part). InPart d p c) (sym b.part) y)
 
 pub separate_left : (d : Scope) (us vs : List Use) → Separate d (us ++ vs) → Separate d us
 separate_left d us vs h = separate_in d (us ++ vs) us (λ u i. in_left u us vs i) h

@@ -1,6 +1,12 @@
 -- What the rules tell nothing of has no race.
 use Rattle.std.proofs.Common.{◌≡◌, ◌+◌, ◌<◌, ◌≤◌, ℕ, zero, suc, Bool, true, false, ap, sym, subst, ◌∙◌, refl, arith, List, [], ◌∷◌, ◌++◌, Option, Some, None, inl, inr, length}
 use Rattle.std.specs.Prelude.{ℤ, pos, ◌+ℤ◌, ◌⊎◌, ◌&&◌, ◌==◌, ◌||◌, slice_get, take}
+use Rattle.std.specs.BTreeSet.{insert_key}
+use Rattle.std.specs.Ordering.{match_ordering}
+use Rattle.std.specs.declared.cmp.Ordering.{Ordering}
+use Rattle.std.specs.declared.cmp.Ordering.TheVariants.{Less, Equal, Greater}
+use Rattle.occ_base.specs.Order.{diag_order, placed}
+use Rattle.occ_base.specs.declared.diag.Diag.{Diag}
 use Rattle.occ_project.specs.declared.expanded.Location.{Location}
 use Rattle.occ_scope.specs.declared.meaning.ScopeEntry.{ScopeEntry}
 use Rattle.occ_types.specs.declared.interface.UseKind.{UseKind}
@@ -38,6 +44,7 @@ use Rattle.occ_usage.specs.Lines.{added, added_by, after_by, after_line, compone
 use Rattle.occ_usage.specs.ParallelRule.{parallel_at}
 use Rattle.occ_usage.specs.Trees.{Tree, Trees, head_of, trees_of, under}
 use Rattle.occ_usage.specs.Walk.{Finding, Rule as WalkRule, line_reported, reported, rounds_reported, under_reported, under_reported_by}
+use Rattle.occ_usage.proofs.Exact.{same_diags}
 use Rattle.occ_usage_conflicts.specs.Components.{joined}
 use Rattle.occ_usage_conflicts.specs.ParallelRule.{some_clash}
 use Rattle.occ_usage_conflicts.specs.declared.rule.Least.TheVariants as least
@@ -52,7 +59,7 @@ use Rattle.occ_usage_values.specs.declared.call.Call.{Call as ACall}
 use Rattle.occ_running.specs.Works as works
 use Rattle.occ_running.specs.Works.{Piece, items_behind, behind_line, replicator_of, rounds, rounds_in}
 use Rattle.occ_sound.specs.Covering.{Allows, AllowsOne, AreIndices, item_uses}
-use Rattle.occ_sound.specs.Safe.{IsClean, IsCleanFormula, IsSilent, NoClash, Separate}
+use Rattle.occ_sound.specs.Safe.{IsClean, IsCleanFormula, IsOther, IsSilent, NoClash, Separate}
 use Rattle.occ_sound.proofs.Covers.{BroughtBodies, IsBrought}
 use Rattle.occ_sound.proofs.Items.{copies, first_tree, in_first_item, index_if, items_allowed, known_none, known_some, own_uses, rounds_front, to_front}
 use Rattle.occ_sound.proofs.Keeping.{BodiesClean, same_number, separate_in, separate_left, separate_right}
@@ -185,6 +192,23 @@ plain_under rule_ env l none h = subst (λ (o : Option KnownReplicator). IsSilen
 pub clean_under : (env : Env) (l : TypedLine) → known_replicator (out-TypedLine l).form ≡ None → IsCleanLine env l → IsClean (under l) (inner env (head_of l)) (inner env (head_of l))
 clean_under env l none c = record { parallel = plain_under parallel_at env l none c.0; abbreviations = plain_under abbreviation_at env l none c.1 }
 
+-- what is told once: of which nothing is told, of that nothing was reported
+put_silent : (there : List Diag) (d : Diag) → IsSilent (insert_key diag_order there d) → IsOther d.code × IsSilent there
+put_silent [] d h = h
+put_silent (x ∷ there) d h = by (diag_order d x) refl h (put_silent there d) where
+  by : (o : Ordering) → diag_order d x ≡ o → IsSilent (match_ordering o (d ∷ x ∷ there) (x ∷ there) (x ∷ insert_key diag_order there d))
+      → (IsSilent (insert_key diag_order there d) → IsOther d.code × IsSilent there) → IsOther d.code × IsSilent (x ∷ there)
+  by Less e h rest = h
+  by Equal e h rest = (subst (λ (y : Diag). IsOther y.code) (sym (same_diags d x e)) h.0, h)
+  by Greater e h rest = let r = rest h.1 in (r.0, (h.0, r.1))
+
+placed_silent : (ds there : List Diag) → IsSilent (placed diag_order ds there) → IsSilent ds × IsSilent there
+placed_silent [] there h = (tt, h)
+placed_silent (d ∷ ds) there h =
+    let first = put_silent (placed diag_order ds there) d h in
+    let rest = placed_silent ds there first.1 in
+    ((first.0, rest.0), rest.1)
+
 round_by : (n : ℕ) (base : ℤ) (env : Env) (f : Finding) (j : ℕ) (t : Bool) → (j == n) ≡ t → j < suc n → (j < n → IsSilent (f (with_index env base j))) → IsSilent (f (with_index env base n)) → IsSilent (f (with_index env base j))
 round_by n base env f j true e l before last = subst (λ (k : ℕ). IsSilent (f (with_index env base k))) (sym (same_number j n e)) last
 round_by n base env f j false e l before last = before (let u : (j == n) ≡ false = e in grind (arith, l, u))
@@ -192,7 +216,8 @@ round_by n base env f j false e l before last = before (let u : (j == n) ≡ fal
 in_round : (n : ℕ) (base : ℤ) (env : Env) (f : Finding) (j : ℕ) → IsSilent (rounds_reported n base env f) → j < n → IsSilent (f (with_index env base j))
 in_round zero base env f j h l = absurd (omega (arith, l))
 in_round (suc n) base env f j h l =
-    round_by n base env f j (j == n) refl l (λ k. in_round n base env f j (silent_left (rounds_reported n base env f) (f (with_index env base n)) h) k) (silent_right (rounds_reported n base env f) (f (with_index env base n)) h)
+    let both = placed_silent (f (with_index env base n)) (rounds_reported n base env f) h in
+    round_by n base env f j (j == n) refl l (λ k. in_round n base env f j both.1 k) both.0
 
 round_under : (rule_ : WalkRule) (env : Env) (l : TypedLine) (k : KnownReplicator) (j : ℕ) → known_replicator (out-TypedLine l).form ≡ Some k → j < k.count → IsSilent (line_reported rule_ env (head_of l) (under l) (λ (e : Env). reported rule_ (under l) e e))
     → IsSilent (reported rule_ (under l) (with_index env k.base j) (with_index env k.base j))

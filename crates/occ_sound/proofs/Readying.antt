@@ -65,7 +65,7 @@ use Rattle.occ_running.specs.Works.{Piece}
 use Rattle.occ_sound.specs.Covering.{AreIndices, item_uses}
 use Rattle.occ_sound.specs.Safe.{IsClean, IsSilent, NoClash, Separate}
 use Rattle.occ_sound.proofs.Items.{own_uses, planned_no_body, under_in_line}
-use Rattle.occ_sound.proofs.Keeping.{NoAlias, same_number, separate_in, separate_left, separate_right}
+use Rattle.occ_sound.proofs.Keeping.{NoAlias, same_number, separate_alike, separate_left, separate_right}
 use Rattle.occ_typing_operands.specs.declared.kind.Known.{Known}
 use Rattle.occ_types.specs.declared.constant.Operator.{Operator}
 
@@ -838,7 +838,7 @@ clash_any env line comps Idle f h = tt
 
 pub planned_under : (env : Env) (d : Scope) (way next : Way) (l : TypedLine) (w : Work) (line : Location) → plan way (out-TypedLine l).form ≡ Some (w, next) → Separate d (own_uses env l) → IsCleanLine env l → Ready (Under next l) env d line
 planned_under env d way next l w line h s c = (
-  separate_in d (own_uses env l) (form_uses (head_of l).form env (head_of l).place ++ joined (components env (head_of l) (items_of (under l)))) (λ u i. under_in_line env l u (planned_no_body way (out-TypedLine l).form (w, next) h) i) s,
+  separate_alike d (own_uses env l) (form_uses (head_of l).form env (head_of l).place ++ joined (components env (head_of l) (items_of (under l)))) (λ u i. under_in_line env l u (planned_no_body way (out-TypedLine l).form (w, next) h) i) s,
   c,
   subst (λ (o : Option Plan). ClashPlan o env (components env (head_of l) (items_of (under l)))) h
       (clash_any env (head_of l).place (components env (head_of l) (items_of (under l))) way (out-TypedLine l).form (own_silent parallel_at env l (λ (e : Env). reported parallel_at (under l) e e) c.0)),
@@ -849,7 +849,7 @@ planned_under env d way next l w line h s c = (
 pub form_under : (env : Env) (d : Scope) (way : Way) (l : TypedLine) (f : TypedForm) (line : Location) → (out-TypedLine l).form ≡ f → is_body f ≡ false → ((comps : List (List Use)) → ClashFree way env comps) → Separate d (own_uses env l) → IsCleanLine env l
     → Ready (Under way l) env d line
 form_under env d way l f line same none clash s c = (
-  separate_in d (own_uses env l) (form_uses (head_of l).form env (head_of l).place ++ joined (components env (head_of l) (items_of (under l)))) (λ u i. under_in_line env l u (ap is_body same ∙ none) i) s,
+  separate_alike d (own_uses env l) (form_uses (head_of l).form env (head_of l).place ++ joined (components env (head_of l) (items_of (under l)))) (λ u i. under_in_line env l u (ap is_body same ∙ none) i) s,
   c,
   clash (components env (head_of l) (items_of (under l))),
   quiet_line env l c,

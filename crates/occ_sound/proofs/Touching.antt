@@ -1,5 +1,5 @@
 -- What is touched lies in the uses of an element.
-use Rattle.std.proofs.Common.{◌≡◌, true, false, ap, sym, subst, refl, List, [], ◌∷◌, ◌++◌, Option, Some, None, inl, inr}
+use Rattle.std.proofs.Common.{◌≡◌, ◌∙◌, true, false, ap, sym, subst, refl, List, [], ◌∷◌, ◌++◌, Option, Some, None, inl, inr}
 use Rattle.std.specs.Prelude.{ℤ, ◌+ℤ◌}
 use Rattle.occ_project.specs.declared.expanded.Location.{Location}
 use Rattle.occ_types.specs.declared.interface.Interval.{Interval}
@@ -9,6 +9,7 @@ use Rattle.occ_types.specs.declared.interface.UseKind.{UseKind}
 use Rattle.occ_usage_parts.specs.Parts.{lies, selects}
 use Rattle.occ_usage_parts.specs.Places.{holds}
 use Rattle.occ_usage_parts.specs.Selecting.{first_inside, followed, inside, part_of, selectors_of}
+use Rattle.occ_usage_parts.specs.declared.part.Part.{Part}
 use Rattle.occ_usage_parts.specs.declared.place.Ending.{Ending}
 use Rattle.occ_usage_parts.specs.declared.place.Ending.TheVariants as e
 use Rattle.occ_usage_parts.specs.declared.place.SelectedPart.{SelectedPart}
@@ -31,6 +32,25 @@ shared_in d us vs e f h = record { u = h.u; among = f h.u h.among; kind = h.kind
 pub covered_in : (d : Scope) (t : Thread) (us vs : List Use) (e : Event) → ((u : Use) → IsOneOf us u → IsOneOf vs u) → Covered d t us e → Covered d t vs e
 covered_in d t us vs e f (inl h) = inl h
 covered_in d t us vs e f (inr h) = inr (shared_in d us vs e f h)
+
+-- one of these uses the same part in the same way
+pub record HasAlike (us : List Use) (x : Use) : Type 0 where
+  pub u : Use
+  pub among : IsOneOf us u
+  pub part : u.part ≡ x.part
+  pub kind : u.kind ≡ x.kind
+
+pub alike_here : (us : List Use) (x : Use) → IsOneOf us x → HasAlike us x
+alike_here us x h = record { u = x; among = h; part = refl; kind = refl }
+
+pub alike_in : (us vs : List Use) (x : Use) → ((u : Use) → IsOneOf us u → IsOneOf vs u) → HasAlike us x → HasAlike vs x
+alike_in us vs x f h = record { u = h.u; among = f h.u h.among; part = h.part; kind = h.kind }
+
+pub covered_alike : (d : Scope) (t : Thread) (us vs : List Use) (e : Event) → ((u : Use) → IsOneOf us u → HasAlike vs u) → Covered d t us e → Covered d t vs e
+covered_alike d t us vs e f (inl h) = inl h
+covered_alike d t us vs e f (inr h) =
+    let a = f h.u h.among in
+    inr (record { u = a.u; among = a.among; kind = a.kind ∙ h.kind; cell = subst (λ (p : Part). InPart d p e.cell) (sym a.part) h.cell })
 
 pub covered_left : (d : Scope) (t : Thread) (us vs : List Use) (e : Event) → Covered d t us e → Covered d t (us ++ vs) e
 covered_left d t us vs e h = covered_in d t us (us ++ vs) e (λ u i. in_left u us vs i) h

@@ -1,52 +1,22 @@
 -- Two diagnostics at one place of the order are one. So none is lost where they are put in order, and grades are told apart.
 use Rattle.std.proofs.Common.{◌≡◌, ◌∙◌, ◌⊎◌, ◌++◌, Bool, true, false, List, [], ◌∷◌, inl, inr, refl, ap, sym, subst}
-use denote.Enum.Bare.{same_true}
 use Rattle.std.specs.Prelude.{◌↔◌, ◌||◌, if◌then◌else◌}
 use Rattle.std.specs.BTreeSet.{insert_key}
-use Rattle.std.specs.Cmp.Lexicographic.{slice_cmp}
 use Rattle.std.specs.List.{Contains}
 use Rattle.std.specs.Cmp.{Equal-is}
-use Rattle.std.specs.Ordering.{is_eq, nat_cmp, ordering_reverse}
+use Rattle.std.specs.Ordering.{is_eq, ordering_reverse}
 use Rattle.std.specs.declared.cmp.Ordering.{Ordering}
 use Rattle.std.specs.declared.cmp.Ordering.TheVariants.{Less, Equal, Greater}
 use Rattle.occ_alias.specs.Grades.{all_unless_reported, checks_of, graded_as, graver, if_check, is_among, is_check, unless_reported, with_errors}
 use Rattle.occ_base.specs.Order.{diag_order}
-use Rattle.occ_base.specs.contracts.code.Code.{the_type}
-use Rattle.occ_base.specs.contracts.code.CodeOrd.TheImpl as code_ord
-use Rattle.occ_base.specs.contracts.code.CodeOrd.TheImpl.Laws as laws
-use Rattle.occ_base.specs.contracts.code.GradeOrd.TheImpl as grade_ord
 use Rattle.occ_base.specs.contracts.diag.DiagOrd.TheImpl.Laws.{total-law}
-use Rattle.occ_base.specs.declared.code.Code.{Code}
 use Rattle.occ_base.specs.declared.code.Grade.{Grade}
 use Rattle.occ_base.specs.declared.code.Grade.TheVariants as grade
 use Rattle.occ_base.specs.declared.diag.Diag.{Diag}
 use Rattle.occ_check.specs.Order.{in_order}
 use Rattle.occ_theorems.specs.Orders.{by_parts}
-use Rattle.occ_theorems.proofs.Circles.{diag_of, same_line, same_name, then_equal}
+use Rattle.occ_usage.proofs.Exact.{same_diags}
 use Rattle.occ_theorems.proofs.Members.{Among, from_contains, from_insert, into_contains, new_insert, old_insert, placed_from, placed_into}
-use Rattle.occ_project_units.proofs.Rising.{equal_names}
-
-same_code : (a b : Code) → (code_ord.ghosts).cmp a b ≡ Equal → a ≡ b
-same_code a b h = same_true the_type tt a b (laws.matches_eq-law a b ∙ ap is_eq h)
-
-same_grade : (a b : Grade) → (grade_ord.ghosts).cmp a b ≡ Equal → a ≡ b
-same_grade grade.Error grade.Error h = refl
-same_grade grade.Error grade.Check h = absurd cc
-same_grade grade.Check grade.Error h = absurd cc
-same_grade grade.Check grade.Check h = refl
-
-pub same_diags : (d e : Diag) → diag_order d e ≡ Equal → d ≡ e
-unfolding diag_of
-same_diags d e h =
-    let by_file = then_equal (slice_cmp nat_cmp d.file e.file) _ h in
-    let by_line = then_equal (nat_cmp d.line e.line) _ by_file.1 in
-    let codes = then_equal ((code_ord.ghosts).cmp d.code e.code) _ by_line.1 in
-    let names = then_equal ((grade_ord.ghosts).cmp d.grade e.grade) _ codes.1 in
-    ap (λ x. diag_of x d.line d.code d.grade d.name) (equal_names d.file e.file by_file.0)
-    ∙ ap (λ x. diag_of e.file x d.code d.grade d.name) (same_line d.line e.line by_line.0)
-    ∙ ap (λ x. diag_of e.file e.line x d.grade d.name) (same_code d.code e.code codes.0)
-    ∙ ap (λ x. diag_of e.file e.line e.code x d.name) (same_grade d.grade e.grade names.0)
-    ∙ ap (λ x. diag_of e.file e.line e.code e.grade x) (same_name d.name e.name names.1)
 
 self_equal : (r : Ordering) → r ≡ ordering_reverse r → r ≡ Equal
 self_equal Less e = absurd cc

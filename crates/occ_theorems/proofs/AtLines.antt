@@ -28,7 +28,8 @@ use Rattle.occ_project_units.specs.Indices.{is_circular}
 use Rattle.occ_project_units.specs.Units.{IsCircular, unit_reads}
 use Rattle.occ_types.specs.declared.interface.Interface.{Interface}
 use Rattle.occ_theorems.specs.Anew.{IsOfCircle, IsUseOf, circle_at, diags_anew, interface_anew, judged_anew, judged_by, used_there}
-use Rattle.occ_theorems.proofs.Circles.{circle_diag, expansion_silent, now_circular, own_circle}
+use Rattle.occ_theorems.proofs.Circles.{expansion_silent, now_circular, own_circle}
+use Rattle.occ_usage.proofs.Exact.{same_diags}
 use Rattle.occ_theorems.proofs.Members.{Among, from_contains, into_contains, placed_from, placed_into}
 
 -- ---- over the whole project
@@ -89,7 +90,7 @@ at_line used l v now (units, is, among) =
 
 -- no other diagnostic has its place
 same_circle : (l : ExpandedLine) (v : List ℕ) (e : Diag) → diag_order (circle_at l v) e ≡ Equal → circle_at l v ≡ e
-same_circle l v e h = circle_diag (circle_at l v) e refl refl h
+same_circle l v e h = same_diags (circle_at l v) e h
 
 stays_first : (d : Diag) (fs : List Diag) (later : Judgement) → Among d fs → Among d (following fs later).faults
 stays_first d [] later h = absurd h

@@ -2,23 +2,17 @@
 use Rattle.std.proofs.Common.{◌≡◌, ◌↔◌, ◌∙◌, ◌⊎◌, ◌||◌, ◌++◌, ◌+◌, ℕ, zero, suc, nat_eq, Bool, true, false, cond, List, [], ◌∷◌, map, take, drop, Option, Some, None, Result, Ok, Err, refl, sym, ap, subst, inl, inr}
 use Rattle.std.proofs.lemmas.Slice.Eq.{bytes_eq-Decides}
 use Rattle.std.specs.BTreeSet.{insert_key}
-use Rattle.std.specs.Cmp.{ranked}
-use Rattle.std.specs.Cmp.Lexicographic.{slice_cmp}
 use Rattle.std.specs.List.{AllByRecursion, flat_map}
-use Rattle.std.specs.Option.{is_some, ok_or, option_cmp, option_map}
-use Rattle.std.specs.Ordering.{match_ordering, nat_cmp, ordering_then}
+use Rattle.std.specs.Option.{is_some, ok_or, option_map}
+use Rattle.std.specs.Ordering.{match_ordering}
 use Rattle.std.specs.Result.{result_err}
 use Rattle.std.specs.Str.{bytes_eq}
 use Rattle.std.specs.declared.cmp.Ordering.{Ordering}
 use Rattle.std.specs.declared.cmp.Ordering.TheVariants.{Less, Equal, Greater}
 use Rattle.occ_base.specs.FileName.{is_unit}
 use Rattle.occ_base.specs.Order.{diag_order, placed}
-use Rattle.occ_base.specs.contracts.code.CodeOrd.TheImpl as code_ord
-use Rattle.occ_base.specs.contracts.code.GradeOrd.TheImpl as grade_ord
 use Rattle.occ_base.specs.declared.code.Code.{Code}
 use Rattle.occ_base.specs.declared.code.Code.TheVariants as code
-use Rattle.occ_base.specs.declared.code.Grade.{Grade}
-use Rattle.occ_base.specs.declared.code.Grade.TheVariants as grade
 use Rattle.occ_base.specs.declared.diag.Diag.{Diag}
 use Rattle.occ_check.specs.Diagnostics.{diags_of, judged, unit_faults}
 use Rattle.occ_check.specs.Faults.{body_faults, line_faults, own_faults, standing as stands, reported_use, use_code, use_faults}
@@ -49,10 +43,10 @@ use Rattle.occ_check.specs.Report.{AreReporting}
 use Rattle.occ_check.specs.declared.checked.Checked.{Checked}
 use Rattle.occ_types.specs.declared.interface.Interface.{Interface}
 use Rattle.occ_project_units.proofs.Narrowed.{file_source}
-use Rattle.occ_project_units.proofs.Rising.{equal_names}
 use Rattle.occ_project_units.proofs.Spelled.{all_front, all_taken}
 use Rattle.occ_project_units.specs.Indices.{is_circular, standing_of}
 use Rattle.occ_project_units.specs.Project.{file_of}
+use Rattle.occ_usage.proofs.Exact.{same_diags}
 use Rattle.occ_project_units.specs.Units.{IsCircular, Reaches, Uses, UsesBy, unit_reads, used_units}
 use Rattle.occ_project_units.specs.declared.standing.Standing.{Standing}
 use Rattle.occ_project_units.specs.declared.standing.Standing.TheVariants as standing
@@ -60,55 +54,9 @@ use Rattle.occ_project_units.specs.declared.standing.Standing.TheVariants as sta
 abbrev Is : Code → List ℕ → Diag → Type 0
 Is c name d = (d.code ≡ c) × (d.name ≡ Some name)
 
--- diagnostics that the order does not distinguishes report the same
-pub then_equal : (a b : Ordering) → ordering_then a b ≡ Equal → (a ≡ Equal) × (b ≡ Equal)
-then_equal Less b h = absurd cc
-then_equal Equal b h = (refl, h)
-then_equal Greater b h = absurd cc
-
-only_circle : (x : Code) → (code_ord.ghosts).cmp code.G2 x ≡ Equal → x ≡ code.G2
-only_circle code.G2 h = refl
-only_circle other h = absurd cc
-
-pub same_name : (a b : Option (List ℕ)) → option_cmp (slice_cmp nat_cmp) a b ≡ Equal → a ≡ b
-same_name None None h = refl
-same_name None (Some b) h = absurd cc
-same_name (Some a) None h = absurd cc
-same_name (Some a) (Some b) h = ap Some (equal_names a b h)
-
-pub same_line : (m n : ℕ) → nat_cmp m n ≡ Equal → m ≡ n
-same_line m n h = ranked m n Equal (sym h)
-
+-- diagnostics that the order does not distinguish report the same
 exact : (name : List ℕ) (d e : Diag) → diag_order d e ≡ Equal → Is code.G2 name d → Is code.G2 name e
-exact name d e h is =
-    let by_line = (then_equal (slice_cmp nat_cmp d.file e.file) _ h).1 in
-    let by_code = (then_equal (nat_cmp d.line e.line) _ by_line).1 in
-    let codes = then_equal ((code_ord.ghosts).cmp d.code e.code) _ by_code in
-    let names = then_equal ((grade_ord.ghosts).cmp d.grade e.grade) _ codes.1 in
-    (only_circle e.code (ap (λ (c : Code). (code_ord.ghosts).cmp c e.code) (sym is.0) ∙ codes.0), sym (same_name d.name e.name names.1) ∙ is.1)
-
-only_error : (g : Grade) → (grade_ord.ghosts).cmp grade.Error g ≡ Equal → g ≡ grade.Error
-only_error grade.Error h = refl
-only_error grade.Check h = absurd cc
-
-unfoldable pub diag_of : List ℕ → ℕ → Code → Grade → Option (List ℕ) → Diag
-diag_of file line c g name = record { file = file; line = line; code = c; grade = g; name = name }
-
--- an error of a circle is alone at its place
-pub circle_diag : (d e : Diag) → d.code ≡ code.G2 → d.grade ≡ grade.Error → diag_order d e ≡ Equal → d ≡ e
-unfolding diag_of
-circle_diag d e is error h =
-    let by_file = then_equal (slice_cmp nat_cmp d.file e.file) _ h in
-    let by_line = then_equal (nat_cmp d.line e.line) _ by_file.1 in
-    let codes = then_equal ((code_ord.ghosts).cmp d.code e.code) _ by_line.1 in
-    let names = then_equal ((grade_ord.ghosts).cmp d.grade e.grade) _ codes.1 in
-    let f : d.file ≡ e.file = equal_names d.file e.file by_file.0 in
-    let l : d.line ≡ e.line = same_line d.line e.line by_line.0 in
-    let c : d.code ≡ e.code = is ∙ sym (only_circle e.code (ap (λ (x : Code). (code_ord.ghosts).cmp x e.code) (sym is) ∙ codes.0)) in
-    let g : d.grade ≡ e.grade = error ∙ sym (only_error e.grade (ap (λ (x : Grade). (grade_ord.ghosts).cmp x e.grade) (sym error) ∙ names.0)) in
-    let n : d.name ≡ e.name = same_name d.name e.name names.1 in
-    ap (λ x. diag_of x d.line d.code d.grade d.name) f ∙ ap (λ x. diag_of e.file x d.code d.grade d.name) l ∙ ap (λ x. diag_of e.file e.line x d.grade d.name) c
-    ∙ ap (λ x. diag_of e.file e.line e.code x d.name) g ∙ ap (λ x. diag_of e.file e.line e.code e.grade x) n
+exact name d e h is = subst (Is code.G2 name) (same_diags d e h) is
 
 -- ---- lists of diagnostics
 

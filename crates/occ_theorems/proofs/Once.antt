@@ -2,7 +2,10 @@
 use Rattle.std.proofs.Common.{◌≡◌, ℕ, zero, suc, Bool, true, false, ap, refl, ◌∙◌, sym, subst, List, [], ◌∷◌, ◌++◌, Some, length, slice_get, inl, inr}
 use Rattle.std.specs.Prelude.{◌↔◌, ◌⊎◌, if◌then◌else◌}
 use Rattle.occ_usage_values.specs.declared.uses.Use.{Use}
-use Rattle.occ_usage_conflicts.specs.Distinct.{added, distinct, is_among, same_use}
+use Rattle.occ_usage_conflicts.specs.Distinct.{added, distinct, gathered, is_among, same_use}
+use Rattle.occ_usage_values.specs.Uses.{at_line}
+use Rattle.occ_project.specs.declared.expanded.Location.{Location}
+use Rattle.occ_theorems.proofs.Members.{Among}
 use Rattle.occ_usage_conflicts.specs.ParallelRule.{StandsIn}
 use Rattle.occ_usage_conflicts.proofs.Clashing.{any_found, any_given}
 use Rattle.occ_usage_conflicts.proofs.Equality.{same_exactly}
@@ -89,3 +92,69 @@ among_law us u = (from_distinct us u, λ (k, at). into_distinct us u k at)
 pub once_law : (us : List Use) (j k : ℕ) (u : Use) → slice_get (distinct us) j ≡ Some u → slice_get (distinct us) k ≡ Some u → j ≡ k
 once_law [] j k u a b = cc
 once_law (x ∷ us) j k u a b = once_added (is_among (distinct us) x) x (distinct us) refl (once_law us) j k u a b
+
+-- ---- the same of members
+
+stands : (us : List Use) (u : Use) → Among u us → StandsIn u us
+stands [] u h = absurd h
+stands (x ∷ us) u (inl e) = (0, ap Some e)
+stands (x ∷ us) u (inr h) = let r = stands us u h in (suc r.0, r.1)
+
+among_all : (us : List Use) (u : Use) (k : ℕ) → slice_get us k ≡ Some u → Among u us
+among_all [] u k h = absurd cc
+among_all (x ∷ us) u zero h = inl (let e : x ≡ u = cc in e)
+among_all (x ∷ us) u (suc k) h = inr (among_all us u k h)
+
+pub added_from : (u x : Use) (found : List Use) → Among x (added u found) → (u ≡ x) ⊎ Among x found
+added_from u x found h = elim (from_added (is_among found u) u x found (stands (added u found) x h)) [
+  | inl e ↦ inl (sym e)
+  | inr k ↦ inr (among_all found x k.0 k.1)
+]
+
+pub added_new : (u : Use) (found : List Use) → Among u (added u found)
+added_new u found = let r = last_added (is_among found u) u found refl in among_all (added u found) u r.0 r.1
+
+pub added_old : (u x : Use) (found : List Use) → Among x found → Among x (added u found)
+added_old u x found h = let r = still_added (is_among found u) u x found (stands found x h) in among_all (added u found) x r.0 r.1
+
+-- ---- uses of one line
+
+-- it is told of one of these
+pub record IsTold (r : Bool) (place : Location) (us : List Use) (w : Use) : Type 0 where
+  pub u : Use
+  pub among : Among u us
+  pub is : (if r then at_line u place else u) ≡ w
+
+still_told : (place : Location) (us found : List Use) (w : Use) → Among w found → Among w (gathered place found us)
+still_told place [] found w h = h
+still_told place (u ∷ us) found w h = still_told place us (added (at_line u place) found) w (added_old (at_line u place) w found h)
+
+pub told_from : (place : Location) (us found : List Use) (w : Use) → Among w (gathered place found us) → Among w found ⊎ IsTold true place us w
+told_from place [] found w h = inl h
+told_from place (u ∷ us) found w h = elim (told_from place us (added (at_line u place) found) w h) [
+  | inl k ↦ elim (added_from (at_line u place) w found k) [
+    | inl e ↦ inr (record { u = u; among = inl refl; is = e })
+    | inr j ↦ inl j
+  ]
+  | inr k ↦ inr (record { u = k.u; among = inr k.among; is = k.is })
+]
+
+pub told_into : (place : Location) (us found : List Use) (u : Use) → Among u us → Among (at_line u place) (gathered place found us)
+told_into place [] found u h = absurd h
+told_into place (x ∷ us) found u (inl e) =
+    still_told place us (added (at_line x place) found) (at_line u place)
+    (subst (λ (y : Use). Among (at_line y place) (added (at_line x place) found)) e (added_new (at_line x place) found))
+told_into place (x ∷ us) found u (inr h) = told_into place us (added (at_line x place) found) u h
+
+gathered_once : (line : Location) (us found : List Use) → Once found → Once (gathered line found us)
+gathered_once line [] found once = once
+gathered_once line (u ∷ us) found once = gathered_once line us (added (at_line u line) found) (once_added (is_among found (at_line u line)) (at_line u line) found refl once)
+
+pub gathered_law : (line : Location) (us : List Use) (w : Use) → StandsIn w (gathered line [] us) ↔ ((u : Use) × StandsIn u us × (at_line u line ≡ w))
+gathered_law line us w = (
+  λ h. elim (told_from line us [] w (among_all (gathered line [] us) w h.0 h.1)) [ inl k ↦ absurd k | inr k ↦ (k.u, stands us k.u k.among, k.is) ],
+  λ h. stands (gathered line [] us) w (subst (λ (z : Use). Among z (gathered line [] us)) h.2 (told_into line us [] h.0 (among_all us h.0 h.1.0 h.1.1))),
+)
+
+pub told_once : (line : Location) (us : List Use) (j k : ℕ) (u : Use) → slice_get (gathered line [] us) j ≡ Some u → slice_get (gathered line [] us) k ≡ Some u → j ≡ k
+told_once line us j k u a b = gathered_once line us [] (λ m n x c d. absurd (let e : slice_get [] m ≡ Some x = c in cc)) j k u a b

@@ -1,8 +1,10 @@
 -- The two ways to say what a rule reports are one.
 use Rattle.std.specs.Prelude.{◌==◌, ◌↔◌}
-use Rattle.std.proofs.Common.{◌≡◌, ◌<◌, ℕ, ℤ, zero, suc, Bool, true, false, Option, Some, None, List, [], ◌++◌, inl, inr, refl, subst, sym, arith}
+use Rattle.std.proofs.Common.{◌≡◌, ◌<◌, ◌⊎◌, ℕ, ℤ, zero, suc, Bool, true, false, Option, Some, None, List, [], ◌∷◌, inl, inr, refl, subst, sym, arith}
+use Rattle.std.specs.BTreeSet.{insert_key}
 use Rattle.std.specs.List.{Contains}
 use Rattle.std.proofs.lemmas.List.Elements.{Contains-append_cases, Contains-append_left, Contains-append_right}
+use Rattle.occ_base.specs.Order.{diag_order, placed}
 use Rattle.occ_base.specs.declared.diag.Diag.{Diag}
 use Rattle.occ_usage_values.specs.Bounds.{Env}
 use Rattle.occ_typing_statements.specs.declared.replicator_tree.KnownReplicator.{KnownReplicator}
@@ -11,31 +13,66 @@ use Rattle.occ_usage.specs.Lines.{after_line, known_replicator, with_index}
 use Rattle.occ_usage.specs.Standing.{IsReportedIn, Stands, below, first, in_round, later}
 use Rattle.occ_usage.specs.Trees.{Empty, Head, Tree, Trees, trees_of}
 use Rattle.occ_usage.specs.Walk.{At, Rule, Finding, line_reported, rounds_reported, reported, reported_of, under_reported, under_reported_by, unit_reported}
+use Rattle.occ_usage.proofs.Exact.{same_diags}
 use Rattle.occ_typing.specs.declared.tree.TypedLine.{TypedLine}
+use Rattle.occ_theorems.proofs.Members.{Among, from_contains, from_insert, into_contains, new_insert, old_insert}
 
 none_reported : (d : Diag) → Contains [] d → ⊥
 none_reported d h = let k : h.0 < 0 = h.1 in omega (arith, k)
+
+-- ---- what is told once
+
+placed_found : (ds there : List Diag) (d : Diag) → Among d (placed diag_order ds there) → Among d ds ⊎ Among d there
+placed_found [] there d h = inr h
+placed_found (x ∷ ds) there d h = elim (from_insert diag_order (placed diag_order ds there) x d h) [
+  | inl e ↦ inl (inl e)
+  | inr k ↦ elim (placed_found ds there d k) [
+    | inl j ↦ inl (inr j)
+    | inr j ↦ inr j
+  ]
+]
+
+placed_given : (ds there : List Diag) (d : Diag) → Among d ds → Among d (placed diag_order ds there)
+placed_given [] there d h = absurd h
+placed_given (x ∷ ds) there d (inl e) =
+    subst (λ (y : Diag). Among y (insert_key diag_order (placed diag_order ds there) x)) e (new_insert diag_order (placed diag_order ds there) x (same_diags x))
+placed_given (x ∷ ds) there d (inr h) = old_insert diag_order (placed diag_order ds there) x d (placed_given ds there d h)
+
+placed_before : (ds there : List Diag) (d : Diag) → Among d there → Among d (placed diag_order ds there)
+placed_before [] there d h = h
+placed_before (x ∷ ds) there d h = old_insert diag_order (placed diag_order ds there) x d (placed_before ds there d h)
 
 -- ---- rounds
 
 same_number : (m n : ℕ) → (m == n) ≡ true → m ≡ n
 same_number m n e = grind (arith, e)
 
+among_found : (n : ℕ) (base : ℤ) (env : Env) (t : Finding) (d : Diag) → Among d (rounds_reported n base env t)
+    → (i : ℕ) × (i < n) × Among d (t (with_index env base i))
+among_found zero base env t d h = absurd h
+among_found (suc n) base env t d h = elim (placed_found (t (with_index env base n)) (rounds_reported n base env t) d h) [
+  | inl last ↦ (n, omega arith, last)
+  | inr before ↦ let r = among_found n base env t d before in let k : r.0 < n = r.1 in (r.0, omega (arith, k), r.2)
+]
+
+among_given : (n : ℕ) (base : ℤ) (env : Env) (t : Finding) (d : Diag) (i : ℕ) → i < n → Among d (t (with_index env base i))
+    → Among d (rounds_reported n base env t)
+among_given zero base env t d i w h = absurd (omega (arith, w))
+among_given (suc n) base env t d i w h = at (i == n) refl (λ v. among_given n base env t d i v h) where
+  at : (s : Bool) → (i == n) ≡ s → (i < n → Among d (rounds_reported n base env t)) → Among d (placed diag_order (t (with_index env base n)) (rounds_reported n base env t))
+  at true e before = placed_given (t (with_index env base n)) (rounds_reported n base env t) d (subst (λ (k : ℕ). Among d (t (with_index env base k))) (same_number i n e) h)
+  at false e before = placed_before (t (with_index env base n)) (rounds_reported n base env t) d (before (let u : (i == n) ≡ false = e in grind (arith, w, u)))
+
 rounds_found : (n : ℕ) (base : ℤ) (env : Env) (t : Finding) (d : Diag) → Contains (rounds_reported n base env t) d
     → (i : ℕ) × (i < n) × Contains (t (with_index env base i)) d
-rounds_found zero base env t d h = absurd (none_reported d h)
-rounds_found (suc n) base env t d h = elim (Contains-append_cases (rounds_reported n base env t) (t (with_index env base n)) d h) [
-  | inl before ↦ let r = rounds_found n base env t d before in let k : r.0 < n = r.1 in (r.0, omega (arith, k), r.2)
-  | inr last ↦ (n, omega arith, last)
-]
+rounds_found n base env t d h =
+    let r = among_found n base env t d (from_contains (rounds_reported n base env t) d h) in
+    (r.0, r.1, into_contains (t (with_index env base r.0)) d r.2)
 
 rounds_given : (n : ℕ) (base : ℤ) (env : Env) (t : Finding) (d : Diag) (i : ℕ) → i < n → Contains (t (with_index env base i)) d
     → Contains (rounds_reported n base env t) d
-rounds_given zero base env t d i w h = absurd (omega (arith, w))
-rounds_given (suc n) base env t d i w h = at (i == n) refl (λ v. rounds_given n base env t d i v h) where
-  at : (s : Bool) → (i == n) ≡ s → (i < n → Contains (rounds_reported n base env t) d) → Contains (rounds_reported n base env t ++ t (with_index env base n)) d
-  at true e before = Contains-append_right (rounds_reported n base env t) (t (with_index env base n)) d (subst (λ (k : ℕ). Contains (t (with_index env base k)) d) (same_number i n e) h)
-  at false e before = Contains-append_left (rounds_reported n base env t) (t (with_index env base n)) d (before (let u : (i == n) ≡ false = e in grind (arith, w, u)))
+rounds_given n base env t d i w h =
+    into_contains (rounds_reported n base env t) d (among_given n base env t d i w (from_contains (t (with_index env base i)) d h))
 
 -- ---- from the list to the places
 

@@ -1,5 +1,5 @@
 -- The two ways to say what a process uses are one.
-use Rattle.std.proofs.Common.{◌≡◌, ◌<◌, ◌++◌, ◌⊎◌, ℕ, ℤ, zero, suc, Bool, true, false, Option, Some, None, List, [], ◌∷◌, inl, inr, refl, sym, ap, subst, arith, slice_get}
+use Rattle.std.proofs.Common.{◌≡◌, ◌<◌, ◌++◌, ◌⊎◌, ℕ, ℤ, zero, suc, Bool, true, false, Option, Some, None, List, [], ◌∷◌, inl, inr, refl, sym, subst, arith}
 use Rattle.std.specs.Prelude.{◌↔◌, ◌==◌, if◌then◌else◌}
 use Rattle.std.specs.List.{Contains}
 use Rattle.occ_scope.specs.declared.meaning.ScopeEntry.{ScopeEntry}
@@ -8,14 +8,15 @@ use Rattle.occ_usage.specs.Effect.{inner, is_body}
 use Rattle.occ_usage.specs.Lines.{added, after_by, after_line, components, components_by, ends_item, is_replicated, items, items_of, known_replicator, line_uses, rounds_to, under_uses, with_index}
 use Rattle.occ_usage.specs.Trees.{Empty, Head, Tree, Trees}
 use Rattle.occ_usage_conflicts.specs.Components.{joined}
-use Rattle.occ_usage_conflicts.specs.Distinct.{distinct}
-use Rattle.occ_usage_conflicts.specs.ParallelRule.{StandsIn}
+use Rattle.occ_usage_conflicts.specs.Distinct.{gathered}
 use Rattle.occ_usage_lines.specs.Forms.{form_uses}
 use Rattle.occ_usage_values.specs.Bounds.{Env}
+use Rattle.occ_usage_values.specs.Uses.{at_line}
+use Rattle.occ_project.specs.declared.expanded.Location.{Location}
 use Rattle.occ_usage_values.specs.declared.uses.Use.{Use}
-use Rattle.occ_theorems.specs.Using.{IsUsed, IsUsedBy, behind, in_some_round, itself, under}
+use Rattle.occ_theorems.specs.Using.{IsUsed, IsUsedBy, behind, in_some_round, itself, told_at, under}
 use Rattle.occ_theorems.proofs.Members.{Among, from_contains, into_contains}
-use Rattle.occ_theorems.proofs.Once.{among_law}
+use Rattle.occ_theorems.proofs.Once.{IsTold, told_from, told_into}
 
 -- ---- lists
 
@@ -57,33 +58,17 @@ joined_back : (u : Use) (xs ys : List (List Use)) → Among u (joined ys) → Am
 joined_back u [] ys h = h
 joined_back u (x ∷ xs) ys h = back u x (joined (xs ++ ys)) (joined_back u xs ys h)
 
-from_stands : (us : List Use) (u : Use) (k : ℕ) → slice_get us k ≡ Some u → Among u us
-from_stands [] u k h = absurd cc
-from_stands (x ∷ us) u zero h = inl (let e : x ≡ u = cc in e)
-from_stands (x ∷ us) u (suc k) h = inr (from_stands us u k h)
-
-into_stands : (us : List Use) (u : Use) → Among u us → StandsIn u us
-into_stands [] u h = absurd h
-into_stands (x ∷ us) u (inl e) = (0, ap Some e)
-into_stands (x ∷ us) u (inr h) = let r = into_stands us u h in (suc r.0, r.1)
-
-from_distinct : (us : List Use) (u : Use) → Among u (distinct us) → Among u us
-from_distinct us u h = let r = (among_law us u).0 (into_stands (distinct us) u h) in from_stands us u r.0 r.1
-
-into_distinct : (us : List Use) (u : Use) → Among u us → Among u (distinct us)
-into_distinct us u h = let r = (among_law us u).1 (into_stands us u h) in from_stands (distinct us) u r.0 r.1
-
 -- ---- what stands under a line
 
-under_from : (b r : Bool) (us : List Use) (u : Use) → Among u (if b then [] else (if r then distinct us else us)) → (b ≡ false) × Among u us
-under_from true r us u h = absurd h
-under_from false true us u h = (refl, from_distinct us u h)
-under_from false false us u h = (refl, h)
+under_from : (b r : Bool) (place : Location) (us : List Use) (w : Use) → Among w (if b then [] else (if r then gathered place [] us else us)) → (b ≡ false) × IsTold r place us w
+under_from true r place us w h = absurd h
+under_from false true place us w h = (refl, elim (told_from place us [] w h) [ inl k ↦ absurd k | inr k ↦ k ])
+under_from false false place us w h = (refl, record { u = w; among = h; is = refl })
 
-under_into : (b r : Bool) (us : List Use) (u : Use) → b ≡ false → Among u us → Among u (if b then [] else (if r then distinct us else us))
-under_into true r us u e h = absurd cc
-under_into false true us u e h = into_distinct us u h
-under_into false false us u e h = h
+under_into : (b r : Bool) (place : Location) (us : List Use) (u : Use) → b ≡ false → Among u us → Among (if r then at_line u place else u) (if b then [] else (if r then gathered place [] us else us))
+under_into true r place us u e h = absurd cc
+under_into false true place us u e h = told_into place us [] u h
+under_into false false place us u e h = h
 
 rounds_from : (n : ℕ) (base : ℤ) (env : Env) (f : Env → List (List Use)) (u : Use) → Among u (joined (rounds_to n base env f)) → (i : ℕ) × (i < n) × Among u (joined (f (with_index env base i)))
 rounds_from zero base env f u h = absurd h
@@ -107,20 +92,20 @@ rounds_into (suc n) base env f u i l h = at (i == n) refl (λ v. rounds_into n b
       (front u (joined (f (with_index env base n))) [] (subst (λ (k : ℕ). Among u (joined (f (with_index env base k)))) (same_number i n e) h))
   at false e before = joined_front u (rounds_to n base env f) (joined (f (with_index env base n)) ∷ []) (before (let w : (i == n) ≡ false = e in grind (arith, l, w)))
 
-module _ (h : Head) (t following : Trees) (outer env : Env) (u : Use) where
-  components_from : (o : Option KnownReplicator) → known_replicator h.form ≡ o → is_body h.form ≡ false → ((e : Env) → Among u (joined (items t e e [])) → IsUsed t e e u)
-      → Among u (joined (components_by o env h (items_of t))) → IsUsed (Tree h t following) outer env u
-  components_from None known plain rest k = under h t following outer env u plain known (rest (inner env h) k)
-  components_from (Some r) known plain rest k =
+module _ (h : Head) (t following : Trees) (outer env : Env) where
+  components_from : (u : Use) (o : Option KnownReplicator) → known_replicator h.form ≡ o → is_body h.form ≡ false → ((e : Env) (v : Use) → Among v (joined (items t e e [])) → IsUsed t e e v)
+      → Among u (joined (components_by o env h (items_of t))) → IsUsed (Tree h t following) outer env (told_at h u)
+  components_from u None known plain rest k = under h t following outer env u plain known (rest (inner env h) u k)
+  components_from u (Some r) known plain rest k =
       let i = rounds_from r.count r.base env (items_of t) u k in
-      in_some_round h t following outer env u r i.0 plain known i.1 (rest (with_index env r.base i.0) i.2)
+      in_some_round h t following outer env u r i.0 plain known i.1 (rest (with_index env r.base i.0) u i.2)
 
-  line_from : ((e : Env) → Among u (joined (items t e e [])) → IsUsed t e e u) → Among u (line_uses env h (items_of t)) → IsUsed (Tree h t following) outer env u
-  line_from rest k = elim (split u (form_uses h.form env h.place) (under_uses h.form (joined (components env h (items_of t)))) k) [
+  line_from : (u : Use) → ((e : Env) (v : Use) → Among v (joined (items t e e [])) → IsUsed t e e v) → Among u (line_uses env h (items_of t)) → IsUsed (Tree h t following) outer env u
+  line_from u rest k = elim (split u (form_uses h.form env h.place) (under_uses h.form h.place (joined (components env h (items_of t)))) k) [
     | inl j ↦ itself h t following outer env u (into_contains (form_uses h.form env h.place) u j)
     | inr j ↦
-        let r = under_from (is_body h.form) (is_replicated h.form) (joined (components env h (items_of t))) u j in
-        components_from (known_replicator h.form) refl r.0 rest r.1
+        let r = under_from (is_body h.form) (is_replicated h.form) h.place (joined (components env h (items_of t))) u j in
+        subst (λ (w : Use). IsUsed (Tree h t following) outer env w) r.1.is (components_from r.1.u (known_replicator h.form) refl r.0 rest r.1.among)
   ]
 
 -- ---- all lines
@@ -131,14 +116,14 @@ items_from Empty outer env own u k = elim (split u own [] k) [
   | inr j ↦ absurd j
 ]
 items_from (Tree h t following) outer env own u k =
-    by h.adds refl k (λ e j. only t e (items_from t e e [] u j)) (λ e o j. items_from following outer e o u j) where
-      only : (t : Trees) (e : Env) → Among u [] ⊎ IsUsed t e e u → IsUsed t e e u
-      only t e (inl j) = absurd j
-      only t e (inr j) = j
+    by h.adds refl k (λ e v j. only t e v (items_from t e e [] v j)) (λ e o j. items_from following outer e o u j) where
+      only : (t : Trees) (e : Env) (v : Use) → Among v [] ⊎ IsUsed t e e v → IsUsed t e e v
+      only t e v (inl j) = absurd j
+      only t e v (inr j) = j
 
       by : (o : Option (List ScopeEntry)) → h.adds ≡ o
           → Among u (joined (if ends_item o then (own ++ line_uses env h (items_of t)) ∷ items following outer outer [] else items following outer (env ++ added env h t (items_of t)) (own ++ line_uses env h (items_of t))))
-          → ((e : Env) → Among u (joined (items t e e [])) → IsUsed t e e u)
+          → ((e : Env) (v : Use) → Among v (joined (items t e e [])) → IsUsed t e e v)
           → ((e : Env) (o : List Use) → Among u (joined (items following outer e o)) → Among u o ⊎ IsUsed following outer e u)
           → Among u own ⊎ IsUsed (Tree h t following) outer env u
       by None is k below more = elim (split u (own ++ line_uses env h (items_of t)) (joined (items following outer outer [])) k) [
@@ -179,19 +164,19 @@ own_stay (Tree h t following) outer env own u k = tree_by h t following outer en
 line_into : (h : Head) (t following : Trees) (outer env : Env) (own : List Use) (u : Use) → Among u (line_uses env h (items_of t)) → Among u (joined (items (Tree h t following) outer env own))
 line_into h t following outer env own u k = tree_by h t following outer env own u h.adds refl (inr (inl k)) (λ e us j. own_stay following outer e us u j)
 
-under_line : (h : Head) (t : Trees) (env : Env) (u : Use) (o : Option KnownReplicator) → known_replicator h.form ≡ o → is_body h.form ≡ false → Among u (joined (components_by o env h (items_of t))) → Among u (line_uses env h (items_of t))
+under_line : (h : Head) (t : Trees) (env : Env) (u : Use) (o : Option KnownReplicator) → known_replicator h.form ≡ o → is_body h.form ≡ false → Among u (joined (components_by o env h (items_of t))) → Among (told_at h u) (line_uses env h (items_of t))
 under_line h t env u o known plain k =
-    back u (form_uses h.form env h.place) (under_uses h.form (joined (components env h (items_of t))))
-    (under_into (is_body h.form) (is_replicated h.form) (joined (components env h (items_of t))) u plain
+    back (told_at h u) (form_uses h.form env h.place) (under_uses h.form h.place (joined (components env h (items_of t))))
+    (under_into (is_body h.form) (is_replicated h.form) h.place (joined (components env h (items_of t))) u plain
     (subst (λ (z : Option KnownReplicator). Among u (joined (components_by z env h (items_of t)))) (sym known) k))
 
 items_into : (t : Trees) (outer env : Env) (own : List Use) (u : Use) → IsUsed t outer env u → Among u (joined (items t outer env own))
 items_into _ _ _ own _ (itself h t following outer env u c) =
-    line_into h t following outer env own u (front u (form_uses h.form env h.place) (under_uses h.form (joined (components env h (items_of t)))) (from_contains (form_uses h.form env h.place) u c))
+    line_into h t following outer env own u (front u (form_uses h.form env h.place) (under_uses h.form h.place (joined (components env h (items_of t)))) (from_contains (form_uses h.form env h.place) u c))
 items_into _ _ _ own _ (under h t following outer env u plain known k) =
-    line_into h t following outer env own u (under_line h t env u None known plain (items_into t (inner env h) (inner env h) [] u k))
+    line_into h t following outer env own (told_at h u) (under_line h t env u None known plain (items_into t (inner env h) (inner env h) [] u k))
 items_into _ _ _ own _ (in_some_round h t following outer env u r i plain known l k) =
-    line_into h t following outer env own u
+    line_into h t following outer env own (told_at h u)
     (under_line h t env u (Some r) known plain (rounds_into r.count r.base env (items_of t) u i l (items_into t (with_index env r.base i) (with_index env r.base i) [] u k)))
 items_into _ _ _ own _ (behind h t following outer env u k) =
     tree_by h t following outer env own u h.adds refl
@@ -202,12 +187,12 @@ items_into _ _ _ own _ (behind h t following outer env u k) =
 
 pub used_law : (env : Env) (h : Head) (t : Trees) (u : Use) → Contains (line_uses env h (items_of t)) u ↔ IsUsedBy env h t u
 used_law env h t u = (
-  λ c. line_from h t Empty env env u (λ e j. only t e (items_from t e e [] u j)) (from_contains (line_uses env h (items_of t)) u c),
+  λ c. line_from h t Empty env env u (λ e v j. only t e v (items_from t e e [] v j)) (from_contains (line_uses env h (items_of t)) u c),
   λ k. into_contains (line_uses env h (items_of t)) u (alone (items_into (Tree h t Empty) env env [] u k)),
 ) where
-  only : (t : Trees) (e : Env) → Among u [] ⊎ IsUsed t e e u → IsUsed t e e u
-  only t e (inl j) = absurd j
-  only t e (inr j) = j
+  only : (t : Trees) (e : Env) (v : Use) → Among v [] ⊎ IsUsed t e e v → IsUsed t e e v
+  only t e v (inl j) = absurd j
+  only t e v (inr j) = j
 
   alone_by : (o : Option (List ScopeEntry)) → Among u (joined (if ends_item o then ([] ++ line_uses env h (items_of t)) ∷ items Empty env env [] else items Empty env (env ++ added env h t (items_of t)) ([] ++ line_uses env h (items_of t)))) → Among u (line_uses env h (items_of t))
   alone_by None k = elim (split u (line_uses env h (items_of t)) ([] ++ []) k) [

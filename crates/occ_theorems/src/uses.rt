@@ -9,8 +9,9 @@ ghost use Rattle.occ_usage_values.specs.Making.{CallUses};
 ghost use Rattle.occ_usage_values.specs.Views.{ActualView, call_uses, element_view, expr_view};
 ghost use Rattle.occ_usage_values.specs.declared.bound.Bound.{Bound as ABound};
 ghost use Rattle.occ_usage_values.specs.declared.call.Call.{Call as ACall};
+ghost use Rattle.occ_usage_values.specs.Uses.{at_line};
 ghost use Rattle.occ_usage_values.specs.declared.uses.Use.{Use as AUse};
-ghost use Rattle.occ_usage_conflicts.specs.Distinct.{distinct, same_use};
+ghost use Rattle.occ_usage_conflicts.specs.Distinct.{distinct, gathered, same_use};
 ghost use Rattle.occ_usage_conflicts.specs.ParallelRule.{IsReported, StandsIn, component_faults, target_faults};
 ghost use Rattle.occ_usage_conflicts.specs.declared.rule.Least.TheVariants as least;
 ghost use Rattle.occ_usage_conflicts.specs.declared.rule.Rule.TheVariants as rules;
@@ -96,11 +97,13 @@ pub fn element_read_law()
     ensures size_effect { (x : AKnown) (of : AnExpr) (env : Env) → (expr_view (e.Size x of)).effect env ≡ false }
 {}
 
-/// Among uses that are listed once are those that were listed, and none is there twice.
+/// Among uses that are listed once are those that were listed, and none is there twice. Those of a replicator are told at its line.
 /// So a list of uses can be made shorter, and none is lost.
-#[tactic(auto, using(occ_usage_conflicts::proofs::Equality::same_exactly, crate::proofs::Once::once_law))]
+#[tactic(auto, using(occ_usage_conflicts::proofs::Equality::same_exactly, crate::proofs::Once::once_law, crate::proofs::Once::gathered_law, crate::proofs::Once::told_once))]
 pub fn distinct_law()
     ensures same { (u v : AUse) → (same_use u v ≡ true) ↔ (u ≡ v) }
     ensures among { (us : List AUse) (u : AUse) → StandsIn u (distinct us) ↔ StandsIn u us }
     ensures once { (us : List AUse) (j k : ℕ) (u : AUse) → slice_get (distinct us) j ≡ Some u → slice_get (distinct us) k ≡ Some u → j ≡ k }
+    ensures told { (line : ALine) (us : List AUse) (w : AUse) → StandsIn w (gathered line [] us) ↔ ((u : AUse) × StandsIn u us × (at_line u line ≡ w)) }
+    ensures told_once { (line : ALine) (us : List AUse) (j k : ℕ) (u : AUse) → slice_get (gathered line [] us) j ≡ Some u → slice_get (gathered line [] us) k ≡ Some u → j ≡ k }
 {}

@@ -1,5 +1,5 @@
 -- Of a `#USE` over no line nothing is reported.
-use Rattle.std.proofs.Common.{◌≡◌, ◌+◌, ◌++◌, ◌∷◌, ℕ, Option, None, Some, List, [], false, refl}
+use Rattle.std.proofs.Common.{◌≡◌, ◌+◌, ◌∷◌, ℕ, None, Some, List, [], false, refl}
 use Rattle.occ_alias.specs.AbbreviationRule.{bound_faults, scope_faults}
 use Rattle.occ_types.specs.declared.interface.Interface.{Interface}
 use Rattle.occ_typing.specs.FormVariants as form

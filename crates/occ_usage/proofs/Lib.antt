@@ -4,5 +4,7 @@ pub mod Compared
 pub mod Sizes
 pub mod Functions
 pub mod Sameness
+pub mod Exact
+pub mod Told
 pub mod Repeated
 pub mod Idle

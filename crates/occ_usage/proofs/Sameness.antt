@@ -1,6 +1,7 @@
 -- Lines that do not name a specification use and report the same in scopes that differ in the value of that alone.
 use Rattle.std.proofs.Common.{◌≡◌, ◌∙◌, ◌++◌, ◌+◌, ◌||◌, ◌&&◌, ℕ, zero, suc, ℤ, Bool, true, false, not, Option, Some, None, List, [], ◌∷◌, length, if◌then◌else◌, refl, ap, ap₂, subst}
 use Rattle.occ_base.specs.Errors.{error_at}
+use Rattle.occ_base.specs.Order.{diag_order, placed}
 use Rattle.occ_base.specs.declared.diag.Diag.{Diag}
 use Rattle.occ_alias.specs.Entering.{body_bound, entry_bounds, specified}
 use Rattle.occ_alias.specs.Naming.{elements_depend, form_depends}
@@ -96,7 +97,7 @@ components_same d h under u = components_by_same d (known_replicator h.form) h u
 
 line_uses_same : (d : ℕ) (h : Head) (under : Under) → form_depends d h.form ≡ false → UnderSame d under → IsSame d (λ env. line_uses env h under)
 line_uses_same d h under own u e f m =
-    ap₂ (λ (us vs : List Use). us ++ vs) (form_uses_same d h.form own h.place e f m) (ap (λ (xs : List (List Use)). under_uses h.form (joined xs)) (components_same d h under u e f m))
+    ap₂ (λ (us vs : List Use). us ++ vs) (form_uses_same d h.form own h.place e f m) (ap (λ (xs : List (List Use)). under_uses h.form h.place (joined xs)) (components_same d h under u e f m))
 
 body_over_same : (d : ℕ) (h : Head) (e f : Env) → DifferAt d e f → (us vs : List Use) (does is : Bool) → us ≡ vs → does ≡ is → body_over e h us does ≡ body_over f h vs is
 body_over_same d h e f m us vs does is p q =
@@ -152,7 +153,7 @@ FindingSame d x = (e f : Env) → DifferAt d e f → x e ≡ x f
 rounds_reported_same : (d n : ℕ) (base : ℤ) (x : Finding) → FindingSame d x → IsSame d (λ env. rounds_reported n base env x)
 rounds_reported_same d zero base x u e f m = refl
 rounds_reported_same d (suc i) base x u e f m =
-    ap₂ (λ (ds es : List Diag). ds ++ es) (rounds_reported_same d i base x u e f m) (u (with_index e base i) (with_index f base i) (differ_more d e f _ m))
+    ap₂ (λ (ds es : List Diag). placed diag_order es ds) (rounds_reported_same d i base x u e f m) (u (with_index e base i) (with_index f base i) (differ_more d e f _ m))
 
 under_reported_same : (d : ℕ) (k : Option KnownReplicator) (h : Head) (x : Finding) → FindingSame d x → IsSame d (λ env. under_reported_by k env h x)
 under_reported_same d None h x u e f m = u (inner e h) (inner f h) (differ_more d e f (entry_bounds h.enters) m)

@@ -1,14 +1,18 @@
 -- Rounds, one after the other.
-use Rattle.std.proofs.Common.{◌≡◌, ◌∙◌, ◌≤◌, ◌+◌, ◌-◌, add-one, append_assoc, ℕ, ℤ, List, [], ◌∷◌, ◌++◌, length, length-append, drop, take, refl, ap, sym, arith}
+use Rattle.std.proofs.Common.{◌≡◌, ◌∙◌, ◌≤◌, ◌+◌, ◌-◌, add-one, ℕ, ℤ, List, [], ◌∷◌, ◌++◌, length, length-append, drop, take, refl, ap, sym, arith}
 use Rattle.std.proofs.lemmas.List.{drop-append-le, length-drop, take-append-le}
+use Rattle.occ_base.specs.Order.{diag_order, placed}
 use Rattle.occ_base.specs.declared.diag.Diag.{Diag}
 use Rattle.occ_usage_values.specs.Bounds.{Env}
 use Rattle.occ_usage_values.specs.declared.uses.Use.{Use}
 use Rattle.occ_usage_conflicts.specs.Components.{joined, parted}
+use Rattle.occ_usage_conflicts.specs.Distinct.{gathered}
+use Rattle.occ_usage_conflicts.proofs.Copies.{gathered_both}
+use Rattle.occ_project.specs.declared.expanded.Location.{Location}
 use Rattle.occ_usage.specs.Lines.{Under, items_of, rounds_to, with_index}
 use Rattle.occ_usage.specs.Trees.{Trees}
 use Rattle.occ_usage.specs.Walk.{Rule, Finding, rounds_reported, reported_of}
-use Rattle.occ_usage.proofs.Walking.{joined_more}
+use Rattle.occ_usage.proofs.Walking.{joined_after, joined_more}
 
 abbrev pub total : List ℕ → ℕ
 total [] = 0
@@ -50,7 +54,7 @@ next_round ns ms us more new n xs before size is many last =
 round_more : (i : ℕ) (base : ℤ) (env : Env) (under : Under) → rounds_to (i + 1) base env under ≡ rounds_to i base env under ++ joined (under (with_index env base i)) ∷ []
 round_more i base env under = ap (λ (k : ℕ). rounds_to k base env under) (add-one i)
 
-reported_more : (i : ℕ) (base : ℤ) (env : Env) (reported : Finding) → rounds_reported (i + 1) base env reported ≡ rounds_reported i base env reported ++ reported (with_index env base i)
+reported_more : (i : ℕ) (base : ℤ) (env : Env) (reported : Finding) → rounds_reported (i + 1) base env reported ≡ placed diag_order (reported (with_index env base i)) (rounds_reported i base env reported)
 reported_more i base env reported = ap (λ (k : ℕ). rounds_reported k base env reported) (add-one i)
 
 pub uses_step : (i : ℕ) (base : ℤ) (start env : Env) (t : Trees) (old us more : List Use) → env ≡ start
@@ -59,6 +63,16 @@ pub uses_step : (i : ℕ) (base : ℤ) (start env : Env) (t : Trees) (old us mor
 uses_step i base start env t old us more same before is =
     joined_more old us more (joined (items_of t (with_index start base i))) (rounds_to i base start (items_of t)) before (is ∙ ap (λ (e : Env). us ++ joined (items_of t (with_index e base i))) same)
     ∙ ap (λ (xs : List (List Use)). old ++ joined xs) (sym (round_more i base start (items_of t)))
+
+pub gather_step : (place : Location) (i : ℕ) (base : ℤ) (start env : Env) (t : Trees) (us own more : List Use) → env ≡ start
+    → us ≡ gathered place [] (joined (rounds_to i base start (items_of t))) → own ≡ joined (items_of t (with_index env base i)) → more ≡ gathered place us own
+    → more ≡ gathered place [] (joined (rounds_to (i + 1) base start (items_of t)))
+gather_step place i base start env t us own more same before used is =
+    is ∙ ap (gathered place us) (used ∙ ap (λ (e : Env). joined (items_of t (with_index e base i))) same)
+    ∙ ap (λ (vs : List Use). gathered place vs (joined (items_of t (with_index start base i)))) before
+    ∙ sym (gathered_both place (joined (rounds_to i base start (items_of t))) (joined (items_of t (with_index start base i))) [])
+    ∙ ap (gathered place []) (sym (joined_after (rounds_to i base start (items_of t)) (joined (items_of t (with_index start base i)))))
+    ∙ ap (λ (xs : List (List Use)). gathered place [] (joined xs)) (sym (round_more i base start (items_of t)))
 
 pub sizes_step : (i : ℕ) (base : ℤ) (start env : Env) (t : Trees) (ns ms : List ℕ) (us more : List Use) (n : ℕ) → env ≡ start
     → (parted ns us ≡ rounds_to i base start (items_of t)) × (total ns ≡ length us) → more ≡ us ++ joined (items_of t (with_index env base i))
@@ -69,11 +83,11 @@ sizes_step i base start env t ns ms us more n same before is many last =
     (is ∙ ap (λ (e : Env). us ++ joined (items_of t (with_index e base i))) same) many last in
     (next.0 ∙ sym (round_more i base start (items_of t)), next.1)
 
-pub reported_step : (rule : Rule) (i : ℕ) (base : ℤ) (start env : Env) (t : Trees) (old reported more : List Diag) → env ≡ start
-    → reported ≡ old ++ rounds_reported i base start (reported_of rule t) → more ≡ reported ++ reported_of rule t (with_index env base i)
-    → more ≡ old ++ rounds_reported (i + 1) base start (reported_of rule t)
-reported_step rule i base start env t old reported more same before is =
-    is ∙ ap (λ (e : Env). reported ++ reported_of rule t (with_index e base i)) same
-    ∙ ap (λ (ds : List Diag). ds ++ reported_of rule t (with_index start base i)) before
-    ∙ append_assoc old (rounds_reported i base start (reported_of rule t)) (reported_of rule t (with_index start base i))
-    ∙ ap (λ (ds : List Diag). old ++ ds) (sym (reported_more i base start (reported_of rule t)))
+pub told_step : (rule : Rule) (i : ℕ) (base : ℤ) (start env : Env) (t : Trees) (found told more : List Diag) → env ≡ start
+    → told ≡ rounds_reported i base start (reported_of rule t) → found ≡ reported_of rule t (with_index env base i) → more ≡ placed diag_order found told
+    → more ≡ rounds_reported (i + 1) base start (reported_of rule t)
+told_step rule i base start env t found told more same before own is =
+    is ∙ ap (λ (ds : List Diag). placed diag_order ds told) own
+    ∙ ap (λ (e : Env). placed diag_order (reported_of rule t (with_index e base i)) told) same
+    ∙ ap (placed diag_order (reported_of rule t (with_index start base i))) before
+    ∙ sym (reported_more i base start (reported_of rule t))

@@ -10,7 +10,6 @@ pub mod Standing
 pub mod Anew
 pub mod Comparing
 pub mod Naming
-pub mod Rounds
 -- what is passed on
 pub mod Typing
 pub use Rattle.occ_alias.specs.Entering

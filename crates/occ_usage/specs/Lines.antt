@@ -7,9 +7,10 @@ use Rattle.occ_usage_values.specs.declared.bound.Bound.TheVariants as b
 use Rattle.occ_usage_values.specs.declared.uses.Use.{Use}
 use Rattle.occ_usage_conflicts.specs.Bodies.{body_uses}
 use Rattle.occ_usage_conflicts.specs.Components.{joined}
-use Rattle.occ_usage_conflicts.specs.Distinct.{distinct}
+use Rattle.occ_usage_conflicts.specs.Distinct.{gathered}
 use Rattle.occ_alias.specs.Entering.{body_bound, index_value, specified}
 use Rattle.occ_alias.specs.Forms.{form_uses}
+use Rattle.occ_project.specs.declared.expanded.Location.{Location}
 use Rattle.occ_scope.specs.declared.meaning.ScopeEntry.{ScopeEntry}
 use Rattle.occ_typing_statements.specs.declared.replicator_tree.KnownReplicator.{KnownReplicator}
 use Rattle.occ_typing_statements.specs.declared.replicator_tree.TypedReplicator.{TypedReplicator}
@@ -60,13 +61,13 @@ components env h under = components_by (known_replicator h.form) env h under
 
 -- ---- one line
 
--- what the lines under a line use, as uses of the line: those of a replicated one each once
-abbrev pub under_uses : TypedForm → List Use → List Use
-under_uses f us = if is_body f then [] else if is_replicated f then distinct us else us
+-- what the lines under a line at this place use, as uses of the line: those of a replicated one are told there, each once
+abbrev pub under_uses : TypedForm → Location → List Use → List Use
+under_uses f place us = if is_body f then [] else if is_replicated f then gathered place [] us else us
 
 -- a line with those under it
 abbrev pub line_uses : Env → Head → Under → List Use
-line_uses env h under = form_uses h.form env h.place ++ under_uses h.form (joined (components env h under))
+line_uses env h under = form_uses h.form env h.place ++ under_uses h.form h.place (joined (components env h under))
 
 -- a PROC or a FUNCTION over lines that use these, and have an effect or not
 abbrev pub body_over : Env → Head → List Use → Bool → Bound

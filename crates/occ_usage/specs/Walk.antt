@@ -1,6 +1,7 @@
--- What a rule reports of lines that is said of each line by what stands in scope there: under a known replicator once for each
--- round, so for each choice of the known indices round a line.
+-- What a rule reports of lines that is said of each line by what stands in scope there: under a known replicator for each round,
+-- so for each choice of the known indices round a line. What several rounds report is told once.
 use Rattle.std.specs.Prelude.{ℕ, zero, suc, ℤ, Option, Some, None, List, [], ◌++◌}
+use Rattle.occ_base.specs.Order.{diag_order, placed}
 use Rattle.occ_base.specs.declared.diag.Diag.{Diag}
 use Rattle.occ_usage_values.specs.Bounds.{Env}
 use Rattle.occ_typing_statements.specs.declared.replicator_tree.KnownReplicator.{KnownReplicator}
@@ -22,9 +23,10 @@ Rule = At → List Diag
 abbrev pub Finding : Type 0
 Finding = Env → List Diag
 
+-- of the first n rounds of a replicator with this base, in order, each once
 abbrev pub rounds_reported : ℕ → ℤ → Env → Finding → List Diag
 rounds_reported zero base env reported = []
-rounds_reported (suc i) base env reported = rounds_reported i base env reported ++ reported (with_index env base i)
+rounds_reported (suc i) base env reported = placed diag_order (reported (with_index env base i)) (rounds_reported i base env reported)
 
 abbrev pub under_reported_by : Option KnownReplicator → Env → Head → Finding → List Diag
 under_reported_by None env h reported = reported (inner env h)

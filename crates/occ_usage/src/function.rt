@@ -10,7 +10,8 @@ ghost use Rattle.occ_usage.specs.FunctionRule.{counted as spec_counted, faults a
 ghost use Rattle.occ_usage.specs.Lines.{after_line};
 ghost use Rattle.occ_usage.specs.Trees.{head_of, trees_of, under as spec_under};
 
-use super::walk::{Finding, go_over, known_replicator};
+use super::finding::Finding;
+use super::walk::{go_over, known_replicator};
 use occ_alias::{UsageScope, each_effect, each_uses, enter_all, form_effect, form_uses, is_write};
 use occ_base::{Code, Diag, Items, Shared};
 use occ_project::Location;

@@ -4,6 +4,7 @@
 #![tactic(auto)]
 
 mod effect;
+mod finding;
 mod function;
 mod multiple;
 mod process;

@@ -7,8 +7,9 @@ ghost use Rattle.occ_usage.specs.Lines.{after_line, items_of, line_uses as spec_
 ghost use Rattle.occ_usage.specs.Processes.{all_passed, from_round, is_asked, own_uses as spec_own_uses, passed, process_uses as spec_process_uses, uses_in, whole_uses as spec_whole_uses};
 ghost use Rattle.occ_usage.specs.Trees.{head_of, trees_of, under as spec_under};
 
+use super::finding::Finding;
 use super::function::go_after;
-use super::walk::{Finding, line as judged_line};
+use super::walk::line as judged_line;
 use occ_alias::{UsageScope, enter_all};
 use occ_base::Items;
 use occ_typing::{Typed, TypedLine};

@@ -1,20 +1,16 @@
 //! Rounds of a replicator that all do the same: no line under it depends on its index.
 #![tactic(auto, using(crate::proofs::Trees::first_tree))]
 
-ghost use Rattle.std.specs.Prelude.{◌≡◌, ◌≤◌, ◌||◌, ◌++◌, IfSome, OnOk, Some, false};
+ghost use Rattle.std.specs.Prelude.{◌≡◌, ◌≤◌, ◌||◌, IfSome, Some, false};
 ghost use Rattle.occ_alias.specs.Naming.{form_depends as spec_form_depends};
-ghost use Rattle.occ_alias.specs.Repeated.{all_diags};
 ghost use Rattle.occ_usage.specs.Lines.{known_replicator as spec_known_replicator};
 ghost use Rattle.occ_usage.specs.Naming.{lines_depend as spec_lines_depend};
-ghost use Rattle.occ_usage.specs.Rounds.{times};
 ghost use Rattle.occ_usage.specs.Trees.{head_of, trees_of, under as spec_under};
 
 use super::walk::known_replicator;
-use occ_alias::{Reported, Run, again, form_depends};
-use occ_base::{Diag, Items};
+use occ_alias::form_depends;
 use occ_typing::TypedLine;
 use occ_typing_statements::KnownReplicator;
-use std::alloc::{AllocError, Global};
 
 /// Whether a line or one under it depends on the specification with this number.
 #[cycle(depending)]
@@ -48,63 +44,4 @@ pub(crate) fn alike_rounds(line: &TypedLine, number: usize) -> Option<KnownRepli
         return None;
     }
     Some(known)
-}
-
-/// Adds these once more.
-fn add_copy(alloc: Global, faults: &[Diag], all: &mut Items<Diag>) -> Result<(), AllocError>
-    ensures { OnOk result (all.new ≡ all.old ++ faults.now) }
-{
-    for fault in faults {
-        all.push(again(alloc, fault)?)?;
-    }
-    Ok(())
-}
-
-/// Adds what one round reports, so often as there are rounds.
-pub(crate) fn add_times(
-    alloc: Global,
-    faults: &[Diag],
-    count: u32,
-    all: &mut Items<Diag>,
-) -> Result<(), AllocError>
-    ensures { OnOk result (all.new ≡ all.old ++ times count faults.now) }
-{
-    if faults.is_empty() {
-        return Ok(());
-    }
-    for index in 0..count {
-        add_copy(alloc, faults, all)?;
-    }
-    Ok(())
-}
-
-/// Adds these once more.
-fn add_run_copies(alloc: Global, runs: &[Run], all: &mut Reported) -> Result<(), AllocError>
-    ensures { OnOk result (all.new ≡ all.old ++ all_diags runs.now) }
-{
-    for run in runs {
-        all.push_run(Run {
-            diag: again(alloc, &run.diag)?,
-            more: run.more,
-        })?;
-    }
-    Ok(())
-}
-
-/// Adds what one round reports, so often as there are rounds.
-pub(crate) fn add_runs(
-    alloc: Global,
-    runs: &[Run],
-    count: u32,
-    all: &mut Reported,
-) -> Result<(), AllocError>
-    ensures { OnOk result (all.new ≡ all.old ++ times count (all_diags runs.now)) }
-{
-    if runs.is_empty() {
-        return Ok(());
-    }
-    for index in 0..count {
-        add_run_copies(alloc, runs, all)?;
-    }
-    Ok(())
 }

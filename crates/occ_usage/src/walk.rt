@@ -5,7 +5,7 @@
 ghost use Rattle.std.specs.Prelude.{IsTrue, ◌≡◌, ◌≤◌, ◌++◌, ◌∷◌, [], if◌then◌else◌, true, false, IfOk, None, OnOk, Some, length, replicate, take};
 ghost use Rattle.occ_alias.specs.AbbreviationRule.{line_faults as spec_line_faults};
 ghost use Rattle.occ_usage_conflicts.specs.Components.{joined as spec_joined, parted};
-ghost use Rattle.occ_usage_conflicts.specs.Distinct.{distinct as spec_distinct};
+ghost use Rattle.occ_usage_conflicts.specs.Distinct.{gathered as spec_gathered};
 ghost use Rattle.occ_alias.specs.Forms.{form_uses as spec_form_uses};
 ghost use Rattle.occ_usage.specs.Comparing.{are_compared as spec_are_compared};
 ghost use Rattle.occ_usage.specs.Effect.{effect_under as spec_effect_under, inner as spec_inner, is_body as spec_is_body};
@@ -18,8 +18,9 @@ ghost use Rattle.occ_usage.specs.Naming.{lines_depend as spec_lines_depend};
 ghost use Rattle.occ_usage.specs.Trees.{head_of, trees_of, under as spec_under};
 
 use super::effect::{effect_under, is_body};
+use super::finding::{Finding, Told};
 use super::multiple::assignment_faults;
-use super::rounds::{add_runs, add_times, alike_rounds};
+use super::rounds::alike_rounds;
 use occ_alias::{
     Reported, UsageScope, body_bound, enter_all, enter_index, enter_line, form_uses, graver,
     index_value, line_faults, number_after,
@@ -29,30 +30,11 @@ use occ_scope::ScopeEntry;
 use occ_typing::{BlockKind, Typed, TypedForm, TypedLine};
 use occ_typing_statements::KnownReplicator;
 use occ_usage_conflicts::{
-    append, append_joined, component_faults, distinct, outside_uses, parted_faults, twice_faults,
+    Gathered, append, append_joined, component_faults, gather, outside_uses, parted_faults,
+    twice_faults,
 };
 use occ_usage_values::{Bound, Use};
 use std::alloc::{AllocError, Global};
-
-/// What the rules of uses report of lines, in no order, some perhaps more than once.
-#[derive(Drop)]
-pub(crate) struct Finding {
-    /// What the parallel rule reports.
-    parallel: Items<Diag>,
-    /// What the abbreviation rule reports, with both grades.
-    abbreviations: Reported,
-}
-
-impl Finding {
-    pub(crate) fn nothing(alloc: Global) -> Finding
-        ensures { result ≡ record { parallel = []; abbreviations = [] } }
-    {
-        Finding {
-            parallel: Items::new(alloc),
-            abbreviations: Reported::nothing(alloc),
-        }
-    }
-}
 
 /// The replicator of a line, if it is known.
 pub(crate) fn known_replicator(form: &TypedForm) -> Option<KnownReplicator>
@@ -126,33 +108,52 @@ fn rounds(
 {
     let mut uses = Items::new(alloc);
     let mut sizes = Vec::new(alloc);
+    let mut told = Told::nothing(alloc);
     for i in 0..known.count {
         let before = uses.len();
-        add_round(alloc, known.base, i, lines, env, &mut uses, reported)?;
+        let mut found = Finding::nothing(alloc);
+        add_round(alloc, known.base, i, lines, env, &mut uses, &mut found)?;
+        told.add(found)?;
         sizes.push(uses.len().saturating_sub(before))?;
     }
+    reported.report(alloc, told)?;
     Ok(EachRound { uses, sizes })
 }
 
-/// Adds the uses of the lines under a line in each round of its replicator, and what is reported of them.
+/// The uses of the lines under a line in each round of its replicator, told at the line, each once, and what is reported of the
+/// lines.
 #[cycle(walk)]
-fn add_rounds(
+fn gather_rounds(
     alloc: Global,
     known: KnownReplicator,
-    lines: &[TypedLine],
+    line: &TypedLine,
     env: &mut UsageScope,
-    uses: &mut Items<Use>,
     reported: &mut Finding,
-) -> Result<(), AllocError>
-    ensures uses { OnOk result (uses.new ≡ uses.old ++ spec_joined (rounds_to known.count known.base env.old (items_of (trees_of lines.now)))) }
+) -> Result<Items<Use>, AllocError>
+    ensures uses { IfOk result (λ uses. uses ≡ spec_gathered (head_of line.now).place [] (spec_joined (rounds_to known.count known.base env.old (items_of (spec_under line.now))))) }
     ensures env { OnOk result (env.new ≡ env.old) }
-    ensures parallel { OnOk result (reported.new.parallel ≡ reported.old.parallel ++ rounds_reported known.count known.base env.old (reported_of parallel_at (trees_of lines.now))) }
-    ensures abbreviations { OnOk result (reported.new.abbreviations ≡ reported.old.abbreviations ++ rounds_reported known.count known.base env.old (reported_of abbreviation_at (trees_of lines.now))) }
+    ensures parallel { OnOk result (reported.new.parallel ≡ reported.old.parallel ++ rounds_reported known.count known.base env.old (reported_of parallel_at (spec_under line.now))) }
+    ensures abbreviations { OnOk result (reported.new.abbreviations ≡ reported.old.abbreviations ++ rounds_reported known.count known.base env.old (reported_of abbreviation_at (spec_under line.now))) }
 {
+    let mut uses = Gathered::nothing(alloc)?;
+    let mut told = Told::nothing(alloc);
     for index in 0..known.count {
-        add_round(alloc, known.base, index, lines, env, uses, reported)?;
+        let mut own = Items::new(alloc);
+        let mut found = Finding::nothing(alloc);
+        add_round(
+            alloc,
+            known.base,
+            index,
+            line.under.as_slice(),
+            env,
+            &mut own,
+            &mut found,
+        )?;
+        uses = uses.with(alloc, own.as_slice(), &line.place)?;
+        told.add(found)?;
     }
-    Ok(())
+    reported.report(alloc, told)?;
+    Ok(uses.into_uses())
 }
 
 /// The uses of each item under a line, with what the line enters in scope, and what is reported of them.
@@ -199,26 +200,6 @@ fn add_inner(
     Ok(())
 }
 
-/// Adds the uses of the components of a line, and what is reported of the lines under it.
-#[cycle(walk)]
-fn add_components(
-    alloc: Global,
-    line: &TypedLine,
-    env: &mut UsageScope,
-    uses: &mut Items<Use>,
-    reported: &mut Finding,
-) -> Result<(), AllocError>
-    ensures uses { OnOk result (uses.new ≡ uses.old ++ spec_joined (spec_components env.old (head_of line.now) (items_of (spec_under line.now)))) }
-    ensures env { OnOk result (env.new ≡ env.old) }
-    ensures parallel { OnOk result (reported.new.parallel ≡ reported.old.parallel ++ under_reported env.old (head_of line.now) (reported_of parallel_at (spec_under line.now))) }
-    ensures abbreviations { OnOk result (reported.new.abbreviations ≡ reported.old.abbreviations ++ under_reported env.old (head_of line.now) (reported_of abbreviation_at (spec_under line.now))) }
-{
-    match known_replicator(line.form.get()) {
-        Some(known) => add_rounds(alloc, known, line.under.as_slice(), env, uses, reported),
-        None => add_inner(alloc, line, env, uses, reported),
-    }
-}
-
 /// What is reported of a block with these components.
 fn block_faults(
     alloc: Global,
@@ -258,39 +239,32 @@ fn own_faults(
     }
 }
 
-/// Adds the uses of the rounds of a PAR, what is reported of the lines under it, and what the rounds have in common.
+/// The uses of the rounds of a PAR, what is reported of the lines under it, and what the rounds have in common.
 #[cycle(walk)]
-fn add_compared_rounds(
+fn compared_rounds(
     alloc: Global,
     known: KnownReplicator,
     line: &TypedLine,
     env: &mut UsageScope,
-    uses: &mut Items<Use>,
     reported: &mut Finding,
-) -> Result<(), AllocError>
+) -> Result<Items<Use>, AllocError>
     requires parallel { spec_are_compared (head_of line.now).form ≡ true }
     requires rounds { spec_known_replicator (head_of line.now).form ≡ Some known }
-    ensures uses { OnOk result (uses.new ≡ uses.old ++ spec_joined (spec_components env.old (head_of line.now) (items_of (spec_under line.now)))) }
+    ensures uses { IfOk result (λ uses. uses ≡ spec_joined (spec_components env.old (head_of line.now) (items_of (spec_under line.now)))) }
     ensures env { OnOk result (env.new ≡ env.old) }
     ensures parallel { OnOk result (reported.new.parallel ≡ reported.old.parallel ++ line_reported parallel_at env.old (head_of line.now) (spec_under line.now) (reported_of parallel_at (spec_under line.now))) }
     ensures abbreviations { OnOk result (reported.new.abbreviations ≡ reported.old.abbreviations ++ under_reported env.old (head_of line.now) (reported_of abbreviation_at (spec_under line.now))) }
 {
-    let EachRound { uses: found, sizes } = rounds(
-        alloc,
-        known,
-        line.under.as_slice(),
-        env,
-        reported,
-    )?;
+    let EachRound { uses, sizes } = rounds(alloc, known, line.under.as_slice(), env, reported)?;
     parted_faults(
         alloc,
         &line.place,
         env.as_slice(),
-        found.as_slice(),
+        uses.as_slice(),
         sizes.as_slice(),
         &mut reported.parallel,
     )?;
-    append(uses, found)
+    Ok(uses)
 }
 
 /// Adds the uses of the items of a line, what is reported of the lines under it, and what the items have in common.
@@ -319,28 +293,8 @@ fn add_compared_items(
     append_joined(components, uses)
 }
 
-/// Adds the uses of the components of a PAR, what is reported of the lines under it, and what the components have in common.
-#[cycle(walk)]
-fn add_compared(
-    alloc: Global,
-    line: &TypedLine,
-    env: &mut UsageScope,
-    uses: &mut Items<Use>,
-    reported: &mut Finding,
-) -> Result<(), AllocError>
-    requires { spec_are_compared (head_of line.now).form ≡ true }
-    ensures uses { OnOk result (uses.new ≡ uses.old ++ spec_joined (spec_components env.old (head_of line.now) (items_of (spec_under line.now)))) }
-    ensures env { OnOk result (env.new ≡ env.old) }
-    ensures parallel { OnOk result (reported.new.parallel ≡ reported.old.parallel ++ line_reported parallel_at env.old (head_of line.now) (spec_under line.now) (reported_of parallel_at (spec_under line.now))) }
-    ensures abbreviations { OnOk result (reported.new.abbreviations ≡ reported.old.abbreviations ++ under_reported env.old (head_of line.now) (reported_of abbreviation_at (spec_under line.now))) }
-{
-    match known_replicator(line.form.get()) {
-        Some(known) => add_compared_rounds(alloc, known, line, env, uses, reported),
-        None => add_compared_items(alloc, line, env, uses, reported),
-    }
-}
-
-/// Adds the uses of the components of a line, what is reported of the lines under it, and what the parallel rule reports of the line.
+/// Adds the uses of the items under a line without a known replicator, what is reported of them, and what the parallel rule reports
+/// of the line.
 #[cycle(walk)]
 fn add_judged(
     alloc: Global,
@@ -349,15 +303,16 @@ fn add_judged(
     uses: &mut Items<Use>,
     reported: &mut Finding,
 ) -> Result<(), AllocError>
+    requires { spec_known_replicator (head_of line.now).form ≡ None }
     ensures uses { OnOk result (uses.new ≡ uses.old ++ spec_joined (spec_components env.old (head_of line.now) (items_of (spec_under line.now)))) }
     ensures env { OnOk result (env.new ≡ env.old) }
     ensures parallel { OnOk result (reported.new.parallel ≡ reported.old.parallel ++ line_reported parallel_at env.old (head_of line.now) (spec_under line.now) (reported_of parallel_at (spec_under line.now))) }
     ensures abbreviations { OnOk result (reported.new.abbreviations ≡ reported.old.abbreviations ++ under_reported env.old (head_of line.now) (reported_of abbreviation_at (spec_under line.now))) }
 {
     if is_parallel(line.form.get()) {
-        return add_compared(alloc, line, env, uses, reported);
+        return add_compared_items(alloc, line, env, uses, reported);
     }
-    add_components(alloc, line, env, uses, reported)?;
+    add_inner(alloc, line, env, uses, reported)?;
     own_faults(alloc, line, &[], env.as_slice(), &mut reported.parallel)
 }
 
@@ -395,7 +350,7 @@ fn alike_uses(
     requires known { spec_known_replicator (head_of line.now).form ≡ Some known }
     requires alike { spec_lines_depend (length env.now) (spec_under line.now) ≡ false }
     requires some { 1 ≤ known.count }
-    ensures uses { IfOk result (λ uses. spec_distinct uses ≡ spec_distinct (spec_joined (spec_components env.old (head_of line.now) (items_of (spec_under line.now))))) }
+    ensures uses { IfOk result (λ uses. spec_gathered (head_of line.now).place [] uses ≡ spec_gathered (head_of line.now).place [] (spec_joined (spec_components env.old (head_of line.now) (items_of (spec_under line.now))))) }
     ensures env { OnOk result (env.new ≡ env.old) }
     ensures parallel { OnOk result (reported.new.parallel ≡ reported.old.parallel ++ line_reported parallel_at env.old (head_of line.now) (spec_under line.now) (reported_of parallel_at (spec_under line.now))) }
     ensures abbreviations { OnOk result (reported.new.abbreviations ≡ reported.old.abbreviations ++ under_reported env.old (head_of line.now) (reported_of abbreviation_at (spec_under line.now))) }
@@ -411,18 +366,9 @@ fn alike_uses(
         &mut uses,
         &mut found,
     )?;
-    add_times(
-        alloc,
-        found.parallel.as_slice(),
-        known.count,
-        &mut reported.parallel,
-    )?;
-    add_runs(
-        alloc,
-        found.abbreviations.runs(),
-        known.count,
-        &mut reported.abbreviations,
-    )?;
+    let mut told = Told::nothing(alloc);
+    told.add(found)?;
+    reported.report(alloc, told)?;
     repeated_faults(
         alloc,
         known,
@@ -434,8 +380,35 @@ fn alike_uses(
     Ok(uses)
 }
 
-/// Uses of the lines under a replicated line: told once each, they are those of all its rounds. And what is reported of these lines
-/// and of the line by the parallel rule.
+/// The uses of the rounds of a known replicator, told at its line, each once. And what is reported of the lines under it and of the
+/// line by the parallel rule.
+#[cycle(walk)]
+fn known_uses(
+    alloc: Global,
+    known: KnownReplicator,
+    line: &TypedLine,
+    env: &mut UsageScope,
+    reported: &mut Finding,
+) -> Result<Items<Use>, AllocError>
+    requires { spec_known_replicator (head_of line.now).form ≡ Some known }
+    ensures uses { IfOk result (λ uses. uses ≡ spec_gathered (head_of line.now).place [] (spec_joined (spec_components env.old (head_of line.now) (items_of (spec_under line.now))))) }
+    ensures env { OnOk result (env.new ≡ env.old) }
+    ensures parallel { OnOk result (reported.new.parallel ≡ reported.old.parallel ++ line_reported parallel_at env.old (head_of line.now) (spec_under line.now) (reported_of parallel_at (spec_under line.now))) }
+    ensures abbreviations { OnOk result (reported.new.abbreviations ≡ reported.old.abbreviations ++ under_reported env.old (head_of line.now) (reported_of abbreviation_at (spec_under line.now))) }
+{
+    if let Some(known) = alike_rounds(line, env.len()) {
+        let uses = alike_uses(alloc, known, line, env, reported)?;
+        return gather(alloc, uses.as_slice(), &line.place);
+    }
+    if is_parallel(line.form.get()) {
+        let uses = compared_rounds(alloc, known, line, env, reported)?;
+        return gather(alloc, uses.as_slice(), &line.place);
+    }
+    gather_rounds(alloc, known, line, env, reported)
+}
+
+/// The uses of the lines under a replicated line, told there, each once. And what is reported of these lines and of the line by the
+/// parallel rule.
 #[cycle(walk)]
 fn replicated_uses(
     alloc: Global,
@@ -443,17 +416,17 @@ fn replicated_uses(
     env: &mut UsageScope,
     reported: &mut Finding,
 ) -> Result<Items<Use>, AllocError>
-    ensures uses { IfOk result (λ uses. spec_distinct uses ≡ spec_distinct (spec_joined (spec_components env.old (head_of line.now) (items_of (spec_under line.now))))) }
+    ensures uses { IfOk result (λ uses. uses ≡ spec_gathered (head_of line.now).place [] (spec_joined (spec_components env.old (head_of line.now) (items_of (spec_under line.now))))) }
     ensures env { OnOk result (env.new ≡ env.old) }
     ensures parallel { OnOk result (reported.new.parallel ≡ reported.old.parallel ++ line_reported parallel_at env.old (head_of line.now) (spec_under line.now) (reported_of parallel_at (spec_under line.now))) }
     ensures abbreviations { OnOk result (reported.new.abbreviations ≡ reported.old.abbreviations ++ under_reported env.old (head_of line.now) (reported_of abbreviation_at (spec_under line.now))) }
 {
-    if let Some(known) = alike_rounds(line, env.len()) {
-        return alike_uses(alloc, known, line, env, reported);
+    if let Some(known) = known_replicator(line.form.get()) {
+        return known_uses(alloc, known, line, env, reported);
     }
     let mut uses = Items::new(alloc);
     add_judged(alloc, line, env, &mut uses, reported)?;
-    Ok(uses)
+    gather(alloc, uses.as_slice(), &line.place)
 }
 
 /// A PROC or a FUNCTION over lines that use these.
@@ -512,14 +485,14 @@ fn under_uses(
     reported: &mut Finding,
 ) -> Result<(), AllocError>
     requires { spec_is_body (head_of line.now).form ≡ false }
-    ensures uses { OnOk result (uses.new ≡ uses.old ++ spec_under_uses (head_of line.now).form (spec_joined (spec_components env.old (head_of line.now) (items_of (spec_under line.now))))) }
+    ensures uses { OnOk result (uses.new ≡ uses.old ++ spec_under_uses (head_of line.now).form (head_of line.now).place (spec_joined (spec_components env.old (head_of line.now) (items_of (spec_under line.now))))) }
     ensures env { OnOk result (env.new ≡ env.old) }
     ensures parallel { OnOk result (reported.new.parallel ≡ reported.old.parallel ++ line_reported parallel_at env.old (head_of line.now) (spec_under line.now) (reported_of parallel_at (spec_under line.now))) }
     ensures abbreviations { OnOk result (reported.new.abbreviations ≡ reported.old.abbreviations ++ under_reported env.old (head_of line.now) (reported_of abbreviation_at (spec_under line.now))) }
 {
     if is_replicated(line.form.get()) {
         let found = replicated_uses(alloc, line, env, reported)?;
-        return append(uses, distinct(alloc, found)?);
+        return append(uses, found);
     }
     add_judged(alloc, line, env, uses, reported)
 }

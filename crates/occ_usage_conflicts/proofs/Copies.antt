@@ -1,14 +1,14 @@
 -- Components that all use the same: they have in common what two of them have, and use together what one does.
 use Rattle.std.proofs.Common.{◌≡◌, ◌∙◌, ◌++◌, ◌||◌, ℕ, zero, suc, Bool, true, false, List, [], ◌∷◌, length, replicate, if◌then◌else◌, inl, inr, refl, ap, ap₂, sym, arith}
 use Rattle.std.specs.List.{list_any}
-use Rattle.std.proofs.lemmas.List.Folds.{list_any-append}
 use Rattle.std.proofs.lemmas.Bool.{cases_Bool}
 use Rattle.occ_base.specs.declared.diag.Diag.{Diag}
 use Rattle.occ_project.specs.declared.expanded.Location.{Location}
+use Rattle.occ_usage_values.specs.Uses.{at_line}
 use Rattle.occ_usage_values.specs.declared.bound.Bound.{Bound}
 use Rattle.occ_usage_values.specs.declared.uses.Use.{Use}
 use Rattle.occ_usage_conflicts.specs.Components.{joined}
-use Rattle.occ_usage_conflicts.specs.Distinct.{added, distinct, is_among, same_use}
+use Rattle.occ_usage_conflicts.specs.Distinct.{added, gathered, is_among, same_use}
 use Rattle.occ_usage_conflicts.specs.ParallelRule.{below, clash_between, component_faults, fault_if, root_faults, some_clash}
 use Rattle.occ_usage_conflicts.specs.declared.rule.Least.{Least}
 use Rattle.occ_usage_conflicts.specs.declared.rule.Least.TheVariants as least
@@ -87,45 +87,52 @@ any_added p u found = by_test (is_among found u) refl where
     turned false true = refl
     turned false false = refl
 
-any_distinct : (p : Use → Bool) (us : List Use) → list_any p (distinct us) ≡ list_any p us
-any_distinct p [] = refl
-any_distinct p (u ∷ us) = any_added p u (distinct us) ∙ ap (λ (t : Bool). p u || t) (any_distinct p us)
+-- ---- uses of one line
 
--- one that stands among those after it changes nothing
-left_out : (u : Use) (us : List Use) → is_among us u ≡ true → distinct (u ∷ us) ≡ distinct us
-left_out u us h =
-    let e : is_among (distinct us) u ≡ true = any_distinct (λ (x : Use). same_use x u) us ∙ h in
-    ap (λ (t : Bool). if t then distinct us else distinct us ++ u ∷ []) e
+pub gathered_both : (line : Location) (us vs found : List Use) → gathered line found (us ++ vs) ≡ gathered line (gathered line found us) vs
+gathered_both line [] vs found = refl
+gathered_both line (u ∷ us) vs found = gathered_both line us vs (added (at_line u line) found)
 
--- uses that stand among those after them change nothing
-all_left_out : (rest more : List Use) → ((p : Use → Bool) → list_any p rest ≡ true → list_any p more ≡ true) → distinct (rest ++ more) ≡ distinct more
-all_left_out [] more h = refl
-all_left_out (x ∷ rest) more h =
-    ap (λ (vs : List Use). added x vs) (all_left_out rest more (λ p e. h p (behind (p x) (list_any p rest) e)))
-    ∙ left_out x more (h (λ (y : Use). same_use y x) (before (same_use x x) (list_any (λ (y : Use). same_use y x) rest) ((same_exactly x x).1 refl))) where
-      behind : (a b : Bool) → b ≡ true → (a || b) ≡ true
-      behind true b e = refl
-      behind false b e = e
+-- each of them is among those that are found
+abbrev AreAmong : Location → List Use → List Use → Type 0
+AreAmong line found [] = Unit {0}
+AreAmong line found (u ∷ us) = (is_among found (at_line u line) ≡ true) × AreAmong line found us
 
-      before : (a b : Bool) → a ≡ true → (a || b) ≡ true
-      before true b e = refl
-      before false b e = cc
+or_true : (a b : Bool) → b ≡ true → (a || b) ≡ true
+or_true true b e = refl
+or_true false b e = e
 
-any_joined : (p : Use → Bool) (n : ℕ) (us : List Use) → list_any p (joined (replicate (suc n) us)) ≡ list_any p us
-any_joined p zero us = list_any-append p us [] ∙ alone (list_any p us) where
-  alone : (a : Bool) → (a || false) ≡ a
-  alone true = refl
-  alone false = refl
-any_joined p (suc n) us = list_any-append p us (joined (replicate (suc n) us)) ∙ ap (λ (t : Bool). list_any p us || t) (any_joined p n us) ∙ both (list_any p us) where
-  both : (a : Bool) → (a || a) ≡ a
-  both true = refl
-  both false = refl
+or_first : (a b : Bool) → a ≡ true → (a || b) ≡ true
+or_first true b e = refl
+or_first false b e = cc
 
-nothing_after : (us : List Use) → us ++ [] ≡ us
-nothing_after [] = refl
-nothing_after (u ∷ us) = ap (λ (vs : List Use). u ∷ vs) (nothing_after us)
+among_added : (u : Use) (found : List Use) → is_among (added u found) u ≡ true
+among_added u found = any_added (λ (x : Use). same_use x u) u found ∙ or_first (same_use u u) (is_among found u) ((same_exactly u u).1 refl)
+
+still_among : (u v : Use) (found : List Use) → is_among found u ≡ true → is_among (added v found) u ≡ true
+still_among u v found h = any_added (λ (x : Use). same_use x u) v found ∙ or_true (same_use v u) (is_among found u) h
+
+stays_among : (line : Location) (u : Use) (us found : List Use) → is_among found u ≡ true → is_among (gathered line found us) u ≡ true
+stays_among line u [] found h = h
+stays_among line u (x ∷ us) found h = stays_among line u us (added (at_line x line) found) (still_among u (at_line x line) found h)
+
+all_among : (line : Location) (us found : List Use) → AreAmong line (gathered line found us) us
+all_among line [] found = tt
+all_among line (u ∷ us) found =
+    (stays_among line (at_line u line) us (added (at_line u line) found) (among_added (at_line u line) found), all_among line us (added (at_line u line) found))
+
+none_new : (line : Location) (us found : List Use) → AreAmong line found us → gathered line found us ≡ found
+none_new line [] found h = refl
+none_new line (u ∷ us) found h =
+    ap (λ (t : Bool). gathered line (if t then found else found ++ at_line u line ∷ []) us) h.0 ∙ none_new line us found h.1
+
+all_gathered : (line : Location) (n : ℕ) (us found : List Use) → AreAmong line found us → gathered line found (joined (replicate n us)) ≡ found
+all_gathered line zero us found h = refl
+all_gathered line (suc n) us found h =
+    gathered_both line us (joined (replicate n us)) found
+    ∙ ap (λ (vs : List Use). gathered line vs (joined (replicate n us))) (none_new line us found h)
+    ∙ all_gathered line n us found h
 
 -- those of components that use the same, each once, are those of one of them
-pub copies_distinct : (n : ℕ) (us : List Use) → distinct (joined (replicate (suc n) us)) ≡ distinct us
-copies_distinct zero us = ap distinct (nothing_after us)
-copies_distinct (suc n) us = all_left_out us (joined (replicate (suc n) us)) (λ p e. any_joined p n us ∙ e) ∙ copies_distinct n us
+pub copies_gathered : (line : Location) (n : ℕ) (us : List Use) → gathered line [] (joined (replicate (suc n) us)) ≡ gathered line [] us
+copies_gathered line n us = gathered_both line us (joined (replicate n us)) [] ∙ all_gathered line n us (gathered line [] us) (all_among line us [])

@@ -199,3 +199,17 @@ linked_none count heads some is = subst (λ (n : ℕ). AreLinked n heads [] []) 
   zeros zero at = refl
   zeros (suc n) zero = refl
   zeros (suc n) (suc at) = zeros n at
+
+-- a place is noted for a use of this bucket
+pub noted_use : (heads before after noted : List ℕ) (found more : List Use) (v : Use) (bucket place : ℕ) → IsLinked heads before found → bucket ≡ bucket_of v (length heads) → place ≡ length found
+    → after ≡ slice_set heads bucket (place + 1) → noted ≡ before ++ linked heads bucket ∷ [] → more ≡ found ++ v ∷ []
+    → IsLinked after noted more
+noted_use heads before after noted found more v bucket place linked_before is here a b c =
+    let put : after ≡ slice_set heads (bucket_of v (length heads)) (length found + 1) = a ∙ ap (λ (n : ℕ). slice_set heads n (place + 1)) is ∙ ap (λ (n : ℕ). slice_set heads (bucket_of v (length heads)) (n + 1)) here in
+    let told : noted ≡ before ++ linked heads (bucket_of v (length heads)) ∷ [] = b ∙ ap (λ (n : ℕ). before ++ linked heads n ∷ []) is in
+    let size : length after ≡ length heads = ap (λ (xs : List ℕ). length xs) put ∙ set_length heads (bucket_of v (length heads)) (length found + 1) in
+    subst (λ (n : ℕ). AreLinked n after noted more) (sym size)
+    (subst (λ (xs : List ℕ). AreLinked (length heads) xs noted more) (sym put)
+    (subst (λ (xs : List ℕ). AreLinked (length heads) (slice_set heads (bucket_of v (length heads)) (length found + 1)) xs more) (sym told)
+    (subst (λ (us : List Use). AreLinked (length heads) (slice_set heads (bucket_of v (length heads)) (length found + 1)) (before ++ linked heads (bucket_of v (length heads)) ∷ []) us) (sym c)
+    (linked_use (length heads) heads before found v linked_before))))

@@ -59,8 +59,3 @@ outside_step n m line us u found more e =
           ≡ distinct_onto found (outside n m line us ++ (if t then from_outside n line u ∷ [] else []))
       by_test true = sym (onto_last (outside n m line us) (from_outside n line u) found)
       by_test false = ap (distinct_onto found) (sym (append-nil (outside n m line us)))
-
-pub few_distinct : (us : List Use) → length us < 2 → distinct us ≡ us
-few_distinct [] w = refl
-few_distinct (u ∷ []) w = refl
-few_distinct (u ∷ v ∷ us) w = absurd (omega (arith, w))

@@ -3,6 +3,8 @@ use Rattle.std.specs.Prelude.{◌==◌, Bool, true, false, ◌&&◌, List, [], �
 use Rattle.std.specs.List.{list_any}
 use Rattle.std.specs.Ordering.{int_eq}
 use Rattle.std.specs.Str.{bytes_eq}
+use Rattle.occ_project.specs.declared.expanded.Location.{Location}
+use Rattle.occ_usage_values.specs.Uses.{at_line}
 use Rattle.occ_usage_values.specs.declared.uses.Use.{Use}
 use Rattle.occ_types.specs.declared.interface.Mark.{Mark}
 use Rattle.occ_types.specs.declared.interface.Mark.TheVariants as mark
@@ -69,3 +71,10 @@ added u found = if is_among found u then found else found ++ u ∷ []
 abbrev pub distinct : List Use → List Use
 distinct [] = []
 distinct (u ∷ us) = added u (distinct us)
+
+-- ---- uses of one line
+
+-- these too, each once, as uses of the line
+abbrev pub gathered : Location → List Use → List Use → List Use
+gathered line found [] = found
+gathered line found (u ∷ us) = gathered line (added (at_line u line) found) us

@@ -1,7 +1,7 @@
-//! The uses of a list, each once, found by buckets: for each bucket its last use, and for each use the one before it.
+//! Where the uses of a list stand, found by buckets: for each bucket its last use, and for each use the one before it.
 ghost use Rattle.std.specs.Prelude.{◌≡◌, ◌<◌, ◌+◌, ◌++◌, ◌∷◌, [], false, true, IfOk, MatchOption, OnOk, length, slice_get, slice_set};
 ghost use Rattle.occ_usage_conflicts.specs.inside.Numbering.{bucket_of as spec_bucket_of};
-ghost use Rattle.occ_usage_conflicts.specs.Distinct.{added, distinct as spec_distinct, is_among};
+ghost use Rattle.occ_usage_conflicts.specs.Distinct.{is_among};
 ghost use Rattle.occ_usage_conflicts.specs.inside.Linking.{IsLinked, is_use, linked as spec_linked};
 
 use super::numbering::bucket_of;
@@ -29,6 +29,25 @@ impl Links {
             heads: vec![in alloc; 0; buckets.max(1)]?,
             before: Vec::with_capacity(alloc, count)?,
         })
+    }
+
+    /// For a list of uses, with twice as many buckets.
+    pub(crate) fn of(alloc: Global, found: &[Use]) -> Result<Links, AllocError>
+        ensures { IfOk result (λ links. IsLinked links.heads.items links.before.items found.now) }
+    {
+        let mut links = Links::none(alloc, found.len().saturating_mul(2))?;
+        for (place, one) in found.iter().enumerate() {
+            let bucket = bucket_in(&Candidate::of(one), &links);
+            links.note(bucket, place)?;
+        }
+        Ok(links)
+    }
+
+    /// How many buckets there are.
+    pub(crate) fn count(&self) -> usize
+        ensures { result ≡ length self.now.heads.items }
+    {
+        self.heads.len()
     }
 
     /// Notes the place after the list as that of a use in this bucket.
@@ -123,32 +142,4 @@ pub(crate) fn add_new(
 {
     links.note(bucket, found.len())?;
     found.push(one)
-}
-
-/// One use more, if it is not among those that are found.
-#[inline(always)]
-fn add(one: Use, links: &mut Links, found: &mut Items<Use>) -> Result<(), AllocError>
-    requires { IsLinked links.old.heads.items links.old.before.items found.old }
-    ensures found { OnOk result (found.new ≡ added one found.old) }
-    ensures links { OnOk result (IsLinked links.new.heads.items links.new.before.items found.new) }
-{
-    match bucket_of_new(&Candidate::of(&one), links, found.as_slice()) {
-        None => Ok(()),
-        Some(bucket) => add_new(one, bucket, links, found),
-    }
-}
-
-/// The uses, each once, the last of them first.
-pub fn distinct(alloc: Global, mut uses: Items<Use>) -> Result<Items<Use>, AllocError>
-    ensures { IfOk result (λ found. found ≡ spec_distinct uses) }
-{
-    if uses.len() < 2 {
-        return Ok(uses);
-    }
-    let mut links = Links::none(alloc, uses.len())?;
-    let mut found = Items::from_vec(Vec::with_capacity(alloc, uses.len())?);
-    while let Some(one) = uses.pop() {
-        add(one, &mut links, &mut found)?;
-    }
-    Ok(found)
 }

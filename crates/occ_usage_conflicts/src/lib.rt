@@ -7,6 +7,7 @@ mod accumulated;
 mod beginning;
 mod body;
 mod each_once;
+mod gathered;
 mod joining;
 mod numbering;
 mod pairs;
@@ -19,7 +20,7 @@ mod same;
 
 pub use beginning::list_of;
 pub use body::{body_uses, outside_uses};
-pub use each_once::distinct;
+pub use gathered::{Gathered, gather};
 pub use joining::{append, append_joined};
 pub use pairs::target_faults;
 pub use reporting::{component_faults, parted_faults, twice_faults};

@@ -1,4 +1,5 @@
-use Rattle.occ_theorems.proofs.Alone.{none_lost, same_diags}
+use Rattle.occ_theorems.proofs.Alone.{none_lost}
+use Rattle.occ_usage.proofs.Exact.{same_diags}
 use Rattle.occ_theorems.proofs.projects.order_law.Goals as goal
 
 pub returns-clause-alone : goal.returns-clause-alone
