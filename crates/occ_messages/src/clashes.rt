@@ -5,8 +5,8 @@ use super::numbers::{Constant, Part, Reach, constants, meeting, parts};
 use super::rounds::{Rounds, common, elements, rounds_of};
 use super::spelling::is_reserved;
 use super::text::{
-    Lines, Numbered, after_word, closed, column, has, has_word, is_skipped, last_word, next_item,
-    next_word, number_of, split_once, word_count,
+    Lines, Numbered, after_word, closed, column, first_word, has, has_word, is_skipped, last_word,
+    next_item, next_word, number_of, split_once, word_count,
 };
 use super::told::{Place, Told, shown};
 use super::uses::{Use, is_of, uses};
@@ -50,7 +50,12 @@ pub fn clash(alloc: Global, place: Place<'_>, told: &mut Told) -> Result<(), All
             number: one.number,
             line: place.lines.line(one.number),
         };
-        told.show(alloc, line, place.name, label(place.code, *one))?;
+        let word = if has_word(line.line, place.name) {
+            place.name
+        } else {
+            first_word(line.line.trim_ascii())
+        };
+        told.show(alloc, line, word, label(place.code, *one))?;
     }
     shared(alloc, place, picked.as_slice(), told)?;
     swapped(alloc, place, picked.as_slice(), told)

@@ -604,7 +604,8 @@ fn lone_operand(
     } else {
         format!(in alloc; "{is}, and does not go with its operator, or with the other operand")?
     });
-    told.mean(place, name);
+    let behind = assigned(place.said).map_or(place.said, |(_, values)| values);
+    told.mean_in(place, behind, name);
     Ok(())
 }
 

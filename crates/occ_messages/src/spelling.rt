@@ -249,7 +249,92 @@ fn form_hint(said: &[u8]) -> Option<&'static str> {
         .or(sign_hint(said))
         .or(joining_hint(said))
         .or(segment_hint(said))
+        .or(specification_hint(said))
+        .or(operator_hint(said))
         .or(ending_hint(said))
+}
+
+/// What is wrong with a specification that is written as in other languages.
+fn specification_hint(said: &[u8]) -> Option<&'static str> {
+    let first = first_word(said);
+    if is_type(first) && has(said, b":=") {
+        Some("a declaration gives no value: `INT x:`, and in a process `x := 3`")
+    } else if is_type(first) && is_sized_behind(said, first) {
+        Some("the size of an array stands before its type: `[10]INT a:`")
+    } else if first == b"VAL".as_slice() && has(said, b" = ") && !has_word(said, b"IS") {
+        Some("`IS` gives a VAL its value: `VAL n IS 3:`")
+    } else if has_word(said, b"CHAN") && !has_word(said, b"OF") {
+        Some("what a channel carries stands behind OF: `CHAN OF INT c:`")
+    } else if first == b"PROC".as_slice() && said.ends_with(b"):") {
+        Some(
+            "the head of a PROC ends without `:`; one stands behind its body, in a line of its own",
+        )
+    } else {
+        None
+    }
+}
+
+/// Whether square brackets stand behind the name that a type declares.
+fn is_sized_behind(said: &[u8], first: &[u8]) -> bool {
+    let rest = after_word(said, first).unwrap_or(&[]).trim_ascii();
+    let name = first_word(rest);
+    !name.is_empty()
+        && !is_reserved(name)
+        && rest
+            .get(name.len()..)
+            .unwrap_or(&[])
+            .trim_ascii()
+            .starts_with(b"[")
+}
+
+/// What is wrong with operators, or with numbers of other languages.
+fn operator_hint(said: &[u8]) -> Option<&'static str> {
+    if [b"MOD".as_slice(), b"DIV", b"XOR"]
+        .iter()
+        .any(|word| has_word(said, word))
+    {
+        Some("`/` divides, `\\` gives the remainder, and `><` is the exclusive or of bits")
+    } else if has(said, b" 0x") {
+        Some("a hexadecimal number begins with `#`: `#1F`")
+    } else if is_front_beside(after_assignment(said).trim_ascii()) {
+        Some(
+            "an operator before one operand stands in brackets with it beside another operator: `(-x) + 1`, `(INT b) + 1`",
+        )
+    } else {
+        None
+    }
+}
+
+/// Whether an expression begins with an operator or a type before one operand, and has another operator behind.
+fn is_front_beside(expression: &[u8]) -> bool {
+    let first = first_word(expression);
+    let rest = if expression.starts_with(b"-") {
+        expression.get(1..).unwrap_or(&[])
+    } else if matches!(first, b"NOT" | b"SIZE") || is_number_type(first) {
+        expression.get(first.len()..).unwrap_or(&[])
+    } else {
+        return false;
+    };
+    [
+        b" + ".as_slice(),
+        b" - ",
+        b" * ",
+        b" / ",
+        b" = ",
+        b" < ",
+        b" > ",
+    ]
+    .iter()
+    .any(|sign| has(rest, sign))
+        && !rest.ends_with(b":")
+}
+
+/// Whether a word is a type to which numbers are converted.
+fn is_number_type(word: &[u8]) -> bool {
+    matches!(
+        word,
+        b"INT" | b"BYTE" | b"INT16" | b"INT32" | b"INT64" | b"BOOL"
+    )
 }
 
 /// What is wrong with how a line begins.

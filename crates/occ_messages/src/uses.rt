@@ -12,6 +12,9 @@ use std::alloc::{AllocError, Global};
 /// How many PROCs are looked into for one use.
 const PROC_LIMIT: usize = 8;
 
+/// How many calls are looked into that do not have a name.
+const CALL_LIMIT: usize = 8;
+
 /// How many lines that use a name are looked at.
 const USE_LIMIT: usize = 32;
 
@@ -49,11 +52,12 @@ impl Deeds {
     }
 }
 
-/// The lines under a PAR that use a name.
+/// The lines under a PAR that use a name, or call a PROC whose body does.
 pub fn uses(alloc: Global, place: Place<'_>, name: &[u8]) -> Result<Vec<Use>, AllocError> {
     let mut found = Vec::new(alloc);
     let depth = column(place.line);
     let mut component = 0usize;
+    let mut left = CALL_LIMIT;
     for (at, line) in place.lines.after(place.number).iter().enumerate() {
         if is_skipped(line) {
             continue;
@@ -66,8 +70,18 @@ pub fn uses(alloc: Global, place: Place<'_>, name: &[u8]) -> Result<Vec<Use>, Al
             component = component.saturating_add(1);
         }
         let number = number_of(at).saturating_add(place.number);
-        if has(line, name) && has_word(place.lines.said(number), name) {
-            let deeds = all_deeds(alloc, place.lines, number, name)?;
+        let said = place.lines.said(number);
+        let deeds = if has(line, name) && has_word(said, name) {
+            Some(all_deeds(alloc, place.lines, number, name)?)
+        } else if left > 0
+            && let Some((called, _)) = call(said)
+        {
+            left = left.saturating_sub(1);
+            outer_deeds(alloc, place.lines, number, called, name)?
+        } else {
+            None
+        };
+        if let Some(deeds) = deeds {
             found.push(Use {
                 number,
                 component,
@@ -76,6 +90,46 @@ pub fn uses(alloc: Global, place: Place<'_>, name: &[u8]) -> Result<Vec<Use>, Al
         }
     }
     Ok(found)
+}
+
+/// What the body of a PROC that a line calls does with a name from outside, if it has it.
+fn outer_deeds(
+    alloc: Global,
+    lines: Lines<'_>,
+    number: u32,
+    called: &[u8],
+    name: &[u8],
+) -> Result<Option<Deeds>, AllocError> {
+    let Some(head) = specified_by(lines, number, called) else {
+        return Ok(None);
+    };
+    let is_own = has_word(formals(lines.statement(head.number)), name);
+    if is_own || !is_in_body(lines, head.number, name) {
+        return Ok(None);
+    }
+    let mut pending = Vec::new(alloc);
+    let formal = Formal {
+        head: head.number,
+        name,
+    };
+    Ok(Some(body_deeds(lines, formal, &mut pending)?))
+}
+
+/// Whether a line under the head of a PROC has a name.
+fn is_in_body(lines: Lines<'_>, head: u32, name: &[u8]) -> bool {
+    let depth = column(lines.line(head));
+    for line in lines.after(head) {
+        if is_skipped(line) {
+            continue;
+        }
+        if column(line) <= depth {
+            break;
+        }
+        if has_word(line, name) {
+            return true;
+        }
+    }
+    false
 }
 
 /// What a line does with a name.
