@@ -1,5 +1,6 @@
 -- The least unit that is ready and not handed out, by the files of a project.
-use Rattle.std.proofs.Common.{◌≡◌, ◌∙◌, ◌&&◌, ◌<◌, ◌≤◌, ◌+◌, Bool, true, false, not, cond, ℕ, List, [], ◌∷◌, length, map, drop, get_or, zero, suc, arith, Option, Some, None, refl, sym, ap, subst}
+use Rattle.std.proofs.Common.{◌≡◌, ◌∙◌, ◌&&◌, ◌||◌, ◌<◌, ◌≤◌, ◌+◌, ◌++◌, ◌⊎◌, inl, inr, Bool, true, false, not, cond, ℕ, List, [], ◌∷◌, length, map, drop, get_or, zero, suc, arith, Option, Some, None, refl, sym, ap, subst}
+use Rattle.std.proofs.lemmas.Bool.{cases_lt}
 use Rattle.std.proofs.lemmas.List.{drop_all, drop_more}
 use Rattle.std.specs.List.{filter, find, list_all, slice_get}
 use Rattle.std.specs.Option.{is_some, option_map}
@@ -11,8 +12,9 @@ use Rattle.occ_board.proofs.Shows.{there}
 use Rattle.occ_board.proofs.Truths.{left_true, right_true}
 use Rattle.occ_board.specs.Done.{done, is_input_among}
 use Rattle.occ_board.specs.Machine.{next_input}
+use Rattle.occ_board.specs.Same.{same_input}
 use Rattle.occ_board.specs.inside.Flagged.{AreFlags, flag_of}
-use Rattle.occ_board.specs.inside.Ready.{HasJob, NoneIsReady, is_next, is_ready, is_rested}
+use Rattle.occ_board.specs.inside.Ready.{HasJob, NoneIsNext, NoneIsReady, is_next, is_ready, is_rested}
 use Rattle.occ_check.specs.Input.{Input}
 use Rattle.occ_project.specs.declared.reads.Read.{Read}
 use Rattle.occ_check.specs.Checks.{input}
@@ -137,6 +139,55 @@ pub job_there : (files ys : List Read) (cached handed : List Input) (p : ℕ) (f
 job_there files ys cached handed p file project same lt e h =
     let here : file ≡ get_or files p file = e ∙ ap (λ (zs : List Read). get_or zs p file) same in
     next_has_job files cached handed file (filed files p file project (there files p file (subst (λ (zs : List Read). p < length zs) same lt) here)) h
+
+-- the file at a place of the same files is named so
+pub name_of : (files ys : List Read) (p : ℕ) (file : Read) → ys ≡ files → p < length ys → file ≡ get_or ys p file → name_at files p ≡ file.name
+name_of files ys p file same lt e = named files p file (there files p file (subst (λ (zs : List Read). p < length zs) same lt) (e ∙ ap (λ (zs : List Read). get_or zs p file) same))
+
+-- none is next up to the next index, or where one more is handed out
+pub one_passed : (files : List Read) (cached handed : List Input) (p : ℕ) (file : Read) → slice_get files p ≡ Some file → is_next files cached handed file ≡ false → NoneIsNext files cached handed p → NoneIsNext files cached handed (p + 1)
+one_passed files cached handed p file here e before q other lt got = elim (cases_lt q p) [
+  | inl less ↦ before q other less got
+  | inr not_less ↦
+      let same : q ≡ p = omega (arith, lt, not_less) in
+      let is : Some file ≡ Some other = sym here ∙ ap (slice_get files) (sym same) ∙ got in
+      let one : file ≡ other = cc in
+      ap (is_next files cached handed) (sym one) ∙ e
+]
+
+more_among : (handed : List Input) (i j : Input) → is_input_among handed i ≡ true → is_input_among (handed ++ j ∷ []) i ≡ true
+more_among [] i j h = absurd cc
+more_among (k ∷ handed) i j h = by (same_input k i) h (more_among handed i j) where
+  by : (b : Bool) → (b || is_input_among handed i) ≡ true → (is_input_among handed i ≡ true → is_input_among (handed ++ j ∷ []) i ≡ true) → (b || is_input_among (handed ++ j ∷ []) i) ≡ true
+  by true k rest = refl
+  by false k rest = rest k
+
+fewer_next : (o d r h k : Bool) → (h ≡ true → k ≡ true) → (o && (not d && (r && not h))) ≡ false → (o && (not d && (r && not k))) ≡ false
+fewer_next false d r h k f e = refl
+fewer_next true true r h k f e = refl
+fewer_next true false false h k f e = refl
+fewer_next true false true true k f e = ap not (f refl)
+fewer_next true false true false k f e = absurd cc
+
+pub still_passed : (files : List Read) (cached handed : List Input) (j : Input) (n : ℕ) → NoneIsNext files cached handed n → NoneIsNext files cached (handed ++ j ∷ []) n
+still_passed files cached handed j n none p file lt got =
+    fewer_next (is_open_unit file) (done files cached file.name) (is_rested files cached file.name) (is_input_among handed (input files file.name)) (is_input_among (handed ++ j ∷ []) (input files file.name))
+    (more_among handed (input files file.name) j) (none p file lt got)
+
+-- before the greater of two indices
+pub passed_by : (files : List Read) (cached handed : List Input) (flags : List Bool) (a b n : ℕ) → IsProject files → AreFlags files cached flags → NoneIsReady files flags a → NoneIsNext files cached handed b → ((p : ℕ) → p < n → (p < a) ⊎ (p < b)) → NoneIsNext files cached handed n
+passed_by files cached handed flags a b n project are ready next either p file lt got = elim (either p lt) [
+  | inl less ↦ next_waits files cached handed flags p file project are got (ready p file less got)
+  | inr less ↦ next p file less got
+]
+
+-- before none, none is
+pub none_passed : (files : List Read) (cached handed : List Input) (n : ℕ) → n ≡ 0 → NoneIsNext files cached handed n
+none_passed files cached handed n e p file lt got = absurd (omega (arith, lt, e))
+
+-- where no unit before an index is next
+pub next_behind : (files : List Read) (cached handed : List Input) (n : ℕ) → NoneIsNext files cached handed n → find (is_next files cached handed) (drop n files) ≡ find (is_next files cached handed) files
+next_behind files cached handed n none = none_before (is_next files cached handed) files n (λ p file lt e. none p file lt e)
 
 -- where no unit before an index is ready, none there is next
 pub next_from : (files : List Read) (cached handed : List Input) (flags : List Bool) (n : ℕ) → IsProject files → AreFlags files cached flags → NoneIsReady files flags n → find (is_next files cached handed) (drop n files) ≡ find (is_next files cached handed) files

@@ -15,7 +15,7 @@ ghost use Rattle.occ_forms.specs.declared.source.SourceLine.{SourceLine as ASour
 ghost use Rattle.occ_lines.specs.Lines.{limit_fault, line_count};
 ghost use Rattle.occ_project_units.specs.Spelled.{AreSpelled};
 ghost use Rattle.std.specs.Option.{is_some, option_map};
-ghost use Rattle.std.specs.Prelude.{◌≡◌, ◌<◌, ◌≤◌, ◌^◌, ◌↔◌, ◌⊎◌, Err, IfErr, IfOk, IfSome, IsErrOf, List, None, OnErr, OnOk, Some, length, true};
+ghost use Rattle.std.specs.Prelude.{◌≡◌, ◌<◌, ◌≤◌, ◌^◌, ◌↔◌, ◌⊎◌, Err, IfErr, IfOk, IfSome, IsErrOf, List, None, OnErr, OnOk, Some, length, true, ℕ};
 
 use super::base::{Base, Cut};
 use super::cached::Cached;
@@ -67,6 +67,8 @@ pub struct Board {
     units: usize,
     /// The units that may be ready.
     waiting: Waiting,
+    /// An index before which each unit that is ready is handed out with its present job.
+    passed: usize,
     /// Where the last file stood that was edited, or the last job that was looked for. It promises nothing: an index that is
     /// wrong costs time.
     near: usize,
@@ -86,6 +88,7 @@ impl Drop for Board {
             opened: _,
             units: _,
             waiting: _,
+            passed: _,
             near: _,
         } = self;
     }
@@ -107,11 +110,11 @@ impl Model for Board {
 
     ghost use Rattle.occ_board.specs.inside.Verified.{AreVerified};
     ghost use Rattle.occ_board.specs.inside.Holding.{IsBoard};
-    ghost use Rattle.occ_board.specs.inside.Ready.{AreAwaited};
+    ghost use Rattle.occ_board.specs.inside.Ready.{AreAwaited, NoneIsNext};
 
     ghost view = { λ b. record { base = b.base; journal = b.journal.items; cached = b.cached; handed = b.handed.items } };
 
-    ghost invariant = { λ b. IsBoard b.base b.journal.items b.cached b.graph b.flags b.opened b.units × AreAwaited b.graph b.flags b.waiting.early b.waiting.from × AreVerified b.graph b.cached b.verified };
+    ghost invariant = { λ b. IsBoard b.base b.journal.items b.cached b.graph b.flags b.opened b.units × AreAwaited b.graph b.flags b.waiting.early b.waiting.from × AreVerified b.graph b.cached b.verified × NoneIsNext b.graph b.cached b.handed.items b.passed };
 }
 
 /// The text that a file had before its last edit, if that is one of the last of all. It promises nothing: a text that is left out costs
@@ -121,6 +124,13 @@ fn text_before(entries: &[Entry], name: FileName) -> Option<&Shared<Source>> {
     let mut edits = last.iter().rev().filter(|entry| entry.edit.name() == name);
     edits.next()?;
     edits.next()?.edit.source()
+}
+
+/// The greater of two indices.
+fn greater(a: usize, b: usize) -> usize
+    ensures { (p : ℕ) → p < result → (p < a) ⊎ (p < b) }
+{
+    if a < b { b } else { a }
 }
 
 /// The source of a text, of which there is no other.
@@ -154,6 +164,7 @@ impl Board {
             opened: 0,
             units: 0,
             waiting: Waiting::new(alloc),
+            passed: 0,
             near: 0,
         }
     }
@@ -267,6 +278,7 @@ impl Board {
         };
         self.opened = opened;
         self.units = units;
+        self.passed = 0;
         self.near = file;
         self.cached.follow(self.graph.project(), file);
         Ok(number)
@@ -295,24 +307,27 @@ impl Board {
     {
         ready_law();
         taking_law();
+        let _files = self.graph.project().files();
         if self.pending() == 0 {
             self.waiting.pass(self.graph.project().files().len());
             return Ok(None);
         }
         let from = first_ready(&self.graph, self.flags.as_slice(), self.waiting.least());
         self.waiting.pass(from);
-        self.near = from;
         let next = next_unit(
             &self.graph,
             &self.cached,
             self.handed.as_slice(),
             self.flags.as_slice(),
-            from,
+            greater(from, self.passed),
         );
-        match next {
-            Some(unit) => Ok(Some(self.job(alloc, from, unit)?)),
-            None => Ok(None),
-        }
+        let Some(index) = next else {
+            return Ok(None);
+        };
+        self.passed = index;
+        self.near = index;
+        let unit = self.graph.project().files()[index].get().name;
+        Ok(Some(self.job(alloc, index, unit)?))
     }
 
     /// Takes the next job, checks it and caches its outcome, and says whether there was one: what a take and a finish come to
@@ -359,7 +374,7 @@ impl Board {
         let verdict = self.judge(file, outcome.job());
         match verdict {
             Verdict::Accepted => self.accept_outcome(file, outcome)?,
-            _ => unhand(&mut self.handed, outcome.job()),
+            _ => self.abandon(outcome.job()),
         }
         Ok(verdict)
     }
@@ -453,6 +468,7 @@ impl Board {
         height_law();
         verified_law();
         let found = self.cached.cache(file, outcome)?;
+        self.passed = 0;
         let job = self.cached.at(found.0).job();
         unhand(&mut self.handed, job);
         forget_users(&self.graph, &mut self.verified, file, job.unit(), found.1);
@@ -487,6 +503,7 @@ impl Board {
     pub fn abandon(&mut self, job: &Job)
         ensures { self.new ≡ after self.old (Event.Abandon job.now) }
     {
+        self.passed = 0;
         unhand(&mut self.handed, job);
     }
 

@@ -106,11 +106,15 @@ impl Cached {
         }
     }
 
-    /// The place of the outcome that is cached of a unit, which is looked for at a place of the project first.
+    /// The place of the outcome that is cached of a unit, which is looked for at a place of the project first, and then at the one before
+    /// it: the hints have not followed yet where flags are set after a new file came.
     fn index_near(&self, file: usize, unit: FileName) -> Option<usize>
         ensures { result ≡ index_in self.now unit }
     {
-        match self.hinted(file, unit) {
+        if let Some(index) = self.hinted(file, unit) {
+            return Some(index);
+        }
+        match self.hinted(file.saturating_sub(1), unit) {
             Some(index) => Some(index),
             None => self.index(unit),
         }

@@ -2,9 +2,10 @@
 ghost use Rattle.occ_board.specs.Done.{done, is_input_among};
 ghost use Rattle.occ_board.specs.Machine.{next_input};
 ghost use Rattle.occ_board.specs.inside.Flagged.{AreFlags};
-ghost use Rattle.occ_board.specs.inside.Ready.{AreRested, HasJob, NoneIsReady, is_next as spec_is_next, is_ready as spec_is_ready, is_rested};
+ghost use Rattle.occ_board.specs.inside.Ready.{AreRested, HasJob, NoneIsNext, NoneIsReady, is_next as spec_is_next, is_ready as spec_is_ready, is_rested};
 ghost use Rattle.occ_check.specs.Checks.{checked, input, used_as as spec_used_as, used_unit};
 ghost use Rattle.occ_project.specs.declared.reads.Read.{Read as ARead};
+ghost use Rattle.occ_project_units.specs.Along.{name_at};
 ghost use Rattle.occ_project_units.specs.Indices.{is_below, standing_of};
 ghost use Rattle.occ_project_units.specs.Project.{IsProject};
 ghost use Rattle.std.specs.Option.{option_copied, option_map};
@@ -209,24 +210,27 @@ fn is_next(
     !is_handed(graph, cached, handed, index, file.name)
 }
 
-/// The least unit that is ready and whose present job is not handed out. None before the index is ready.
+/// The index of the least unit that is ready and whose present job is not handed out. No such unit is before the index at which it is
+/// begun.
 pub fn next_unit(
     graph: &Graph,
     cached: &Cached,
     handed: &[Job],
     flags: &[bool],
     from: usize,
-) -> Option<FileName>
+) -> Option<usize>
     requires flags { AreFlags graph.now cached.now flags.now }
-    requires from { NoneIsReady graph.now flags.now from }
-    ensures next { option_map (input graph.now) result ≡ next_input graph.now cached.now handed.now }
-    ensures job { IfSome result (λ unit. HasJob graph.now cached.now unit) }
+    requires from { NoneIsNext graph.now cached.now handed.now from }
+    ensures next { option_map (λ p. input graph.now (name_at graph.now p)) result ≡ next_input graph.now cached.now handed.now }
+    ensures job { IfSome result (λ p. HasJob graph.now cached.now (name_at graph.now p)) }
+    ensures before { IfSome result (λ p. NoneIsNext graph.now cached.now handed.now p) }
+    ensures within { IfSome result (λ p. p < length graph.now) }
 {
     let files = graph.project().files();
     for index in from..files.len() {
         let file = files[index].get();
         if is_next(graph, cached, handed, flags, index, file) {
-            return Some(file.name);
+            return Some(index);
         }
     }
     None

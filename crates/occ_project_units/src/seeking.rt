@@ -1,5 +1,5 @@
-//! Notes who looks for what, by what is known of files. Where there is no room for a note, or no memory, nothing is known: all are
-//! noted anew when a file comes next.
+//! Notes who looks for what, by what is known of files. Where there is no room for a note, or no memory, nothing is known, until all
+//! are noted anew.
 ghost use Rattle.occ_project_graph.specs.Graph.{is_among as spec_is_among};
 ghost use Rattle.occ_project.specs.Entries.{is_among};
 ghost use Rattle.occ_project_units.specs.Along.{name_at};
@@ -257,7 +257,7 @@ fn note_among(
     true
 }
 
-/// Who looks for what after the edit of a file, where this was known before and the files at these indices read it.
+/// The same, where the files at these indices read the edited one.
 pub fn lookers_among(
     alloc: Global,
     lookers: Option<Lookers>,
@@ -272,7 +272,9 @@ pub fn lookers_among(
     requires readers { AreReading project.now edited readers.now }
     ensures { IfSome result (λ next. AreNotedThen project.now edited lookers next) }
 {
-    let mut lookers = lookers?;
+    let Some(mut lookers) = lookers else {
+        return lookers_of(alloc, project, facts, links);
+    };
     if note_among(alloc, &mut lookers, project, facts, links, readers) {
         return Some(lookers);
     }

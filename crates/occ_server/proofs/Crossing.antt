@@ -547,8 +547,8 @@ waiting_field_send : IsSend waiting.the_field.row
 waiting_field_send = search (sendable, BTreeMap-send, number_send) depth 30
 
 -- the last fields of a board: its flags and counts, and what may be ready
-counts_send : IsSend flags.the_field.row × (IsSend flags.the_field.row × (IsSend usize × (IsSend usize × (IsSend waiting.the_field.row × (IsSend usize × Unit {0})))))
-counts_send = (flags_field_send, (flags_field_send, (number_send, (number_send, (waiting_field_send, (number_send, tt))))))
+counts_send : IsSend flags.the_field.row × (IsSend flags.the_field.row × (IsSend usize × (IsSend usize × (IsSend waiting.the_field.row × (IsSend usize × (IsSend usize × Unit {0}))))))
+counts_send = (flags_field_send, (flags_field_send, (number_send, (number_send, (waiting_field_send, (number_send, (number_send, tt)))))))
 
 board_field_send : IsSend board.the_field.row
 board_field_send = search (sendable, base_field_send, Vec-send, entry_send, cached_field_send, job_field_send, graph_field_send, counts_send) depth 30

@@ -39,6 +39,10 @@ abbrev pub is_next : List Read → List Input → List Input → Read → Bool
 is_next files cached handed file =
     is_open_unit file && (not (done files cached file.name) && (is_rested files cached file.name && not (is_input_among handed (input files file.name))))
 
+-- none before this index is one
+abbrev pub NoneIsNext : List Read → List Input → List Input → ℕ → Type 0
+NoneIsNext files cached handed n = (p : ℕ) (file : Read) → p < n → slice_get files p ≡ Some file → is_next files cached handed file ≡ false
+
 -- the file at this index is a ready unit, as far as the flags report
 abbrev pub is_ready : List Read → List Bool → ℕ → Read → Bool
 is_ready files flags p file = not (get_or flags p false) && (list_all (flag_of files flags) (rest_units files (name_at files p)) && is_open_unit file)

@@ -1,9 +1,10 @@
-use Rattle.std.proofs.Common.{arith, ap, subst, sym, ◌∙◌, ◌≡◌, ◌+◌, ◌<◌, ℕ, Bool, List, None, length, true}
+use Rattle.std.proofs.Common.{arith, ap, refl, subst, sym, ◌∙◌, ◌≡◌, ◌+◌, ◌<◌, ℕ, Bool, List, None, length, true}
 use Rattle.std.specs.Prelude.{◌-◌, take, vec_len}
 use Rattle.occ_base.specs.FileName.{is_unit}
 use Rattle.occ_board.proofs.Begun.{accepts}
 use Rattle.occ_board.proofs.Caches.{all_but_last}
 use Rattle.occ_board.proofs.Edits.{room}
+use Rattle.occ_board.proofs.Nexts.{none_passed}
 use Rattle.occ_board.proofs.Opened.{open_before, open_few, units_before, units_few}
 use Rattle.occ_board.proofs.board.Board.accept.Goals as goal
 use Rattle.occ_board.specs.Journal.{edited, is_full, last_number, open_number, refusal, refusal_of, replay}
@@ -12,6 +13,7 @@ use Rattle.occ_board.specs.declared.entry.Edit.{Edit}
 use Rattle.occ_board.specs.declared.entry.Entry.{Entry}
 use Rattle.occ_board.specs.declared.entry.Edit.TheVariants as edit
 use Rattle.occ_board.specs.inside.Verified.{AreVerified}
+use Rattle.occ_board.specs.inside.Ready.{NoneIsNext}
 use Rattle.occ_board.specs.inside.Holding.{IsBoard, count_then}
 use Rattle.occ_board.specs.inside.Revisions.{AreBefore}
 use Rattle.occ_check.specs.Input.{Input}
@@ -29,6 +31,7 @@ invariant_of-self-2 c =
           (subst IsProject (sym c.self.invariant.0.files_are) (c.done_law.ensures.project c.self.inside.base c.self.inside.journal.items c.self.invariant.0.based))),
       c.renew-renewed.ensures.awaited,
       subst (λ (ks : List Input). AreVerified c.renew-renewed.new.graph ks c.renew-renewed.new.verified) (sym c.follow.ensures) c.in-Ok.ensures.verified,
+      none_passed _ _ _ _ refl,
     )
 
 pub count_after-opened-requires-clause-most : goal.count_after-opened-requires-clause-most
@@ -78,6 +81,7 @@ invariant_of-self-in-Err c =
       kept.0,
       c.renew-renewed.ensures.awaited,
       kept.1,
+      subst (λ (fs : List Read). NoneIsNext fs c.self.inside.cached c.self.inside.handed.items c.self.inside.passed) (sym back.0) c.self.invariant.3,
     )
 
 pub overflow_add-number : goal.overflow_add-number

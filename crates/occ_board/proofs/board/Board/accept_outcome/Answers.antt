@@ -1,7 +1,8 @@
-use Rattle.std.proofs.Common.{◌≡◌, ◌∙◌, List, ℕ, ap, subst, sym, true}
+use Rattle.std.proofs.Common.{◌≡◌, ◌∙◌, List, ℕ, ap, refl, subst, sym, true}
 use Rattle.std.specs.Str.{bytes_eq}
 use Rattle.occ_board.proofs.Adopted.{adopted, before_still, done_now, fewer_left, verified_still, full_still, opened_still, sound_still, reported_still}
 use Rattle.occ_board.proofs.Caches.{same_there}
+use Rattle.occ_board.proofs.Nexts.{none_passed}
 use Rattle.occ_board.proofs.Opened.{AreUnits, units_with}
 use Rattle.occ_board.proofs.Indices.{within}
 use Rattle.occ_board.proofs.board.Board.accept_outcome.Goals as goal
@@ -81,4 +82,5 @@ invariant_of-self-2 c = (
   },
   c.settle_cached.ensures.awaited,
   c.settle_cached.ensures.verified,
+  none_passed _ _ _ _ refl,
 )

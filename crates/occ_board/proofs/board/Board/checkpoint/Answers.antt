@@ -14,4 +14,5 @@ invariant_of-self-2 c =
       cut_off base c.follow.new.self journal c.replace-entries.new.dest.items c.self.inside.cached c.self.inside.graph c.self.inside.flags c.self.inside.opened c.self.inside.units c.self.invariant.0 next (search rules),
       c.self.invariant.1,
       c.self.invariant.2,
+      c.self.invariant.3,
     )
