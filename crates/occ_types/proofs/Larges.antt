@@ -42,7 +42,7 @@ pub oversized_nest : (u inner : OccType) (n within extent : Option ℕ) (r : Boo
     → ((size : Option ℕ) → extent ≡ capped size → r ≡ is_over size) → (r || is_oversized inner) ≡ is_oversized u
 oversized_nest u inner n within extent r is inside value over =
     ap (λ (b : Bool). b || is_oversized inner)
-        (over (size_of (t.Array n inner)) (value ∙ ap (λ (s : Option ℕ). capped (product_of n s)) inside ∙ cut_product n (size_of inner) ∙ ap capped (sym (size_array n inner))))
+    (over (size_of (t.Array n inner)) (value ∙ ap (λ (s : Option ℕ). capped (product_of n s)) inside ∙ cut_product n (size_of inner) ∙ ap capped (sym (size_array n inner))))
     ∙ sym (is_oversized_array n inner) ∙ ap is_oversized (sym is)
 
 pub ruleset large_rules = (is_oversized_array, is_oversized_itself)
