@@ -52,7 +52,7 @@ all_brought : (unit t : Trees) (outer env : Env) (a : At) → ((c : At) → Stan
 all_brought unit _ _ _ _ up round m (first h t rest outer env) = m
 all_brought unit _ _ _ _ up round m (below h t rest outer env a known s) =
     let here = up (record { line = h; under = t; env = env }) (first h t rest outer env) in
-    let scope = more unit [] env (entry_bounds h.enters) m (each unit env (entry_bounds h.enters) (λ k x is. entered_by unit env h t k x here is)) in
+    let scope = more unit [] env (entry_bounds h.enters) m (each unit env (entry_bounds h.enters) (λ k x is. entered_by unit env h t k x here known is)) in
     all_brought unit t (inner env h) (inner env h) a (λ c w. up c (below h t rest outer env c known w)) scope scope s
 all_brought unit _ _ _ _ up round m (in_round h t rest outer env a r i known w s) =
     let here = up (record { line = h; under = t; env = env }) (first h t rest outer env) in

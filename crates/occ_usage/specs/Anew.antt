@@ -15,9 +15,9 @@ pub data IsBroughtIn : Trees → Env → Bound → Type 0 where
   -- one of those that it adds after itself, as a PROC or a FUNCTION with what its lines use there
   added_by : (unit : Trees) (before : Env) (h : Head) (t : Trees) (k : ℕ) (x : Bound) → Stands unit [] [] (record { line = h; under = t; env = before })
       → slice_get (added before h t (items_of t)) k ≡ Some x → IsBroughtIn unit (before ++ take k (added before h t (items_of t))) x
-  -- one of those that it enters for the lines under it
+  -- one of those that it enters for the lines under it, if it has no known replicator
   entered_by : (unit : Trees) (before : Env) (h : Head) (t : Trees) (k : ℕ) (x : Bound) → Stands unit [] [] (record { line = h; under = t; env = before })
-      → slice_get (entry_bounds h.enters) k ≡ Some x → IsBroughtIn unit (before ++ take k (entry_bounds h.enters)) x
+      → known_replicator h.form ≡ None → slice_get (entry_bounds h.enters) k ≡ Some x → IsBroughtIn unit (before ++ take k (entry_bounds h.enters)) x
   -- the index of its replicator in one of the rounds
   index_of : (unit : Trees) (before : Env) (h : Head) (t : Trees) (r : KnownReplicator) (i : ℕ) → Stands unit [] [] (record { line = h; under = t; env = before })
       → known_replicator h.form ≡ Some r → i < r.count → IsBroughtIn unit before (b.Value (index_value r.base i) None [])
