@@ -29,7 +29,8 @@ ghost use Rattle.occ_usage.specs.Anew.{AllBroughtIn};
 ghost use Rattle.occ_theorems.specs.Functions.{IsFunctionFault};
 ghost use Rattle.occ_usage.specs.FunctionRule.{function_faults};
 ghost use Rattle.occ_usage.specs.Standing.{IsReportedIn, Stands};
-ghost use Rattle.occ_theorems.specs.Using.{IsUsedBy};
+ghost use Rattle.occ_theorems.specs.Using.{IsToldBy, IsUsedBy};
+ghost use Rattle.occ_usage.specs.EachLine.{line_use};
 ghost use Rattle.occ_usage.specs.Lines.{items_of, line_uses};
 ghost use Rattle.occ_usage.specs.Trees.{Head as AHead, Trees as SomeTrees, trees_of};
 ghost use Rattle.occ_usage.specs.Walk.{At, Rule, unit_reported};
@@ -42,10 +43,12 @@ pub fn use_scope_law()
     ensures { (lines : List ATypedLine) (a : At) → Stands (trees_of lines) [] [] a → AllBroughtIn (trees_of lines) a.env }
 {}
 
-/// A use is among all that the lines of a process have exactly if a line that stands in it has it, outside inner bodies of PROCs and
-/// FUNCTIONs. Uses of what is declared inside are among them. Under a known replicator a line stands once in each round.
+/// A use is among those of a process exactly if a line that stands in it has it, outside inner bodies of PROCs and FUNCTIONs. Uses
+/// of what is declared inside are among them. Under a known replicator a line stands once in each round. The rules for what
+/// holds a replicator see each of them told at its line.
 pub fn process_use_law()
-    ensures { (env : Env) (h : AHead) (t : SomeTrees) (u : AUse) → Contains (line_uses env h (items_of t)) u ↔ IsUsedBy env h t u }
+    ensures used { (env : Env) (h : AHead) (t : SomeTrees) (u : AUse) → Contains (line_use env h t) u ↔ IsUsedBy env h t u }
+    ensures told { (env : Env) (h : AHead) (t : SomeTrees) (u : AUse) → Contains (line_uses env h (items_of t)) u ↔ IsToldBy env h t u }
 {}
 
 /// A rule of uses reports a diagnostic of a unit exactly if it reports it of some line, by what is in scope there.

@@ -8,6 +8,7 @@ use Rattle.occ_usage_values.specs.declared.uses.Use.{Use}
 use Rattle.occ_usage_conflicts.specs.Components.{joined}
 use Rattle.occ_alias.specs.Entering.{body_bound, specified}
 use Rattle.occ_scope.specs.declared.meaning.ScopeEntry.{ScopeEntry}
+use Rattle.occ_usage.specs.EachLine.{line_use, lines_use}
 use Rattle.occ_usage.specs.Effect.{effect_after, effect_under, is_body, line_effect, lines_effect}
 use Rattle.occ_usage.specs.FunctionRule.{faults, whole_faults}
 use Rattle.occ_usage.specs.Lines.{added, added_by, body_over, after_by, after_line, after_lines, ends_item, items, items_of, line_uses}
@@ -186,6 +187,21 @@ step_faults w h t rest all outer env following found found1 whole is before more
     ∙ ap (λ (z : Trees). found ++ faults w z outer env) (sym is)
     ∙ before
 
+-- ---- uses, each at its line
+
+pub step_lines_use : (h : Head) (t rest all : Trees) (outer env following : Env) (found found1 whole : List Use)
+    → all ≡ Tree h t rest
+    → found ++ lines_use all outer env ≡ whole
+    → found1 ≡ found ++ line_use env h t
+    → following ≡ after_line outer env h t
+    → found1 ++ lines_use rest outer following ≡ whole
+step_lines_use h t rest all outer env following found found1 whole is before more e =
+    ap (λ (z : Env). found1 ++ lines_use rest outer z) e
+    ∙ ap (λ (z : List Use). z ++ lines_use rest outer (after_line outer env h t)) more
+    ∙ append_assoc found (line_use env h t) (lines_use rest outer (after_line outer env h t))
+    ∙ ap (λ (z : Trees). found ++ lines_use z outer env) (sym is)
+    ∙ before
+
 -- ---- uses of a process
 
 pub step_process : (left next : Option ℕ) (h : Head) (t rest all : Trees) (outer env following : Env) (found found1 whole : List Use)
@@ -259,3 +275,19 @@ step_effect h t rest all outer env following found found1 whole is before more e
     ∙ or_assoc found (line_effect env h (effect_under t env h)) (lines_effect rest outer (effect_after outer env h (effect_under t env h) h.adds))
     ∙ ap (λ (z : Trees). found || lines_effect z outer env) (sym is)
     ∙ before
+
+-- ---- uses, each at its line, after one line more
+
+-- a line leaves what stands in scope at it, and then what comes after it stands there
+pub step_each : (h : Head) (t rest all : Trees) (depth : ℕ) (outer env kept following : Env) (found found1 whole : List Use)
+    → depth ≤ length env → take depth env ≡ outer
+    → kept ≡ env
+    → (depth ≤ length kept → following ≡ after_line (take depth kept) kept h t)
+    → all ≡ Tree h t rest
+    → found ++ lines_use all outer env ≡ whole
+    → found1 ≡ found ++ line_use env h t
+    → (depth ≤ length following) × (take depth following ≡ outer) × (found1 ++ lines_use rest outer following ≡ whole)
+step_each h t rest all depth outer env kept following found found1 whole within round same after is before more =
+    let e : depth ≤ length env → following ≡ after_line (take depth env) env h t = subst (λ (z : Env). depth ≤ length z → following ≡ after_line (take depth z) z h t) same after in
+    let stands = after_stands depth outer env following h t within round (e within) in
+    (stands.0, stands.1, step_lines_use h t rest all outer env following found found1 whole is before more stands.2)

@@ -5,6 +5,7 @@ pub mod Walk
 pub mod ParallelRule
 pub mod AbbreviationRule
 pub mod FunctionRule
+pub mod EachLine
 pub mod Processes
 pub mod Standing
 pub mod Anew

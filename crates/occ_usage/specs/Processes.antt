@@ -6,7 +6,8 @@ use Rattle.occ_usage_values.specs.Bounds.{Env}
 use Rattle.occ_usage_values.specs.declared.uses.Use.{Use}
 use Rattle.occ_typing.specs.declared.tree.TypedLine.{TypedLine}
 use Rattle.occ_usage.specs.Effect.{inner}
-use Rattle.occ_usage.specs.Lines.{after_line, items_of, line_uses}
+use Rattle.occ_usage.specs.EachLine.{line_use}
+use Rattle.occ_usage.specs.Lines.{after_line}
 use Rattle.occ_usage.specs.Trees.{Empty, Head, Tree, Trees, trees_of}
 
 -- of what stands round it
@@ -34,7 +35,7 @@ all_passed (Tree h t following) left = all_passed following (all_passed t (passe
 
 -- a line, if it is the process that is asked for
 abbrev pub own_uses : Option ℕ → Head → Trees → Env → List Use
-own_uses left h t env = if is_asked h.is_process left then from_round (length env) (line_uses env h (items_of t)) else []
+own_uses left h t env = if is_asked h.is_process left then from_round (length env) (line_use env h t) else []
 
 -- env stands in scope at the first of the lines, and outer at the next item
 abbrev pub process_uses : Option ℕ → Trees → Env → Env → List Use

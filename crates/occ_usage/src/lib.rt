@@ -3,6 +3,7 @@
 //! uses that element.
 #![tactic(auto)]
 
+mod each_line;
 mod effect;
 mod finding;
 mod function;

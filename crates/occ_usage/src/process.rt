@@ -3,13 +3,12 @@
 
 ghost use Rattle.std.specs.Prelude.{◌≡◌, ◌≤◌, ◌++◌, ◌∷◌, [], IfOk, OnOk, length, take};
 ghost use Rattle.occ_usage.specs.Effect.{inner as spec_inner};
-ghost use Rattle.occ_usage.specs.Lines.{after_line, items_of, line_uses as spec_line_uses};
+ghost use Rattle.occ_usage.specs.Lines.{after_line};
 ghost use Rattle.occ_usage.specs.Processes.{all_passed, from_round, is_asked, own_uses as spec_own_uses, passed, process_uses as spec_process_uses, uses_in, whole_uses as spec_whole_uses};
 ghost use Rattle.occ_usage.specs.Trees.{head_of, trees_of, under as spec_under};
 
-use super::finding::Finding;
+use super::each_line::add_line;
 use super::function::go_after;
-use super::walk::line as judged_line;
 use occ_alias::{UsageScope, enter_all};
 use occ_base::Items;
 use occ_typing::{Typed, TypedLine};
@@ -24,23 +23,6 @@ pub type ProcessId = usize;
 pub struct Summary {
     /// In no order, some perhaps more than once.
     pub uses: Items<Use>,
-}
-
-/// What a line uses with those under it.
-fn line_uses(
-    alloc: Global,
-    line: &TypedLine,
-    env: &mut UsageScope,
-) -> Result<Items<Use>, AllocError>
-    ensures uses { IfOk result (λ uses. uses ≡ spec_line_uses env.old (head_of line.now) (items_of (spec_under line.now))) }
-    ensures env { OnOk result (env.new ≡ env.old) }
-{
-    let mut uses = Items::new(alloc);
-    let mut reported = Finding::nothing(alloc);
-    let depth = env.len();
-    judged_line(alloc, line, env, &mut uses, &mut reported)?;
-    env.cut(depth);
-    Ok(uses)
 }
 
 /// Adds a use, if it is one of what so many specifications are.
@@ -110,7 +92,8 @@ fn add_own_uses(
     if !pass(line.is_process, left) {
         return Ok(());
     }
-    let uses = line_uses(alloc, line, env)?;
+    let mut uses = Items::new(alloc);
+    add_line(alloc, line, env, &mut uses)?;
     add_from_round(alloc, env.len(), uses.as_slice(), found)
 }
 
@@ -174,7 +157,7 @@ fn lines(
     Ok(())
 }
 
-/// What the process with this number uses of what stands round it, where no index round it is known.
+/// What the process with this number uses of what stands round it, each use at its line, where no index round it is known.
 pub fn uses_of(alloc: Global, typed: &Typed, process: ProcessId) -> Result<Summary, AllocError>
     ensures { IfOk result (λ summary. summary.uses ≡ uses_in typed.now.lines process) }
 {

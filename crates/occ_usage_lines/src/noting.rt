@@ -198,12 +198,23 @@ fn strike_last(numbers: &mut Items<usize>, depth: usize)
     }
 }
 
+/// Gives back the room of a list without a number: other rounds of a replicator may fill others.
+fn release(alloc: Global, numbers: &mut Items<usize>)
+    ensures { numbers.new ≡ numbers.old }
+{
+    if numbers.is_empty() {
+        *numbers = Items::new(alloc);
+    }
+}
+
 /// Strikes numbers that are in a list and not below this one.
 fn strike(lists: &mut Vec<Items<usize>>, list: usize, depth: usize)
     ensures { AreKeptBelow depth lists.old.items lists.new.items }
 {
     if list < lists.len() {
+        let alloc = *lists.allocator();
         strike_last(&mut lists[list], depth);
+        release(alloc, &mut lists[list]);
     }
 }
 
