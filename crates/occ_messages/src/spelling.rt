@@ -263,8 +263,8 @@ fn specification_hint(said: &[u8]) -> Option<&'static str> {
         Some("the size of an array stands before its type: `[10]INT a:`")
     } else if first == b"VAL".as_slice() && has(said, b" = ") && !has_word(said, b"IS") {
         Some("`IS` gives a VAL its value: `VAL n IS 3:`")
-    } else if has_word(said, b"CHAN") && !has_word(said, b"OF") {
-        Some("what a channel carries stands behind OF: `CHAN OF INT c:`")
+    } else if has_word(said, b"CHAN") && (has(said, b"?") || has(said, b"!")) {
+        Some("a channel is specified without `?` and `!`: `CHAN OF INT c:`")
     } else if first == b"PROC".as_slice() && said.ends_with(b"):") {
         Some(
             "the head of a PROC ends without `:`; one stands behind its body, in a line of its own",
