@@ -1,4 +1,4 @@
-//! The bucket of a use, by root, line and indices. Nothing is promised of it but that it is made of the use.
+//! The bucket of a use, by root, last abbreviation and indices. Nothing is promised of it but that it is made of the use.
 ghost use Rattle.std.specs.Prelude.{◌≡◌, ◌<◌};
 ghost use Rattle.occ_usage_conflicts.specs.inside.Numbering.{bucket_of as spec_bucket_of, number_of as spec_number_of, number_of_places, number_of_run, number_of_selector, with_selectors as spec_with_selectors};
 
@@ -6,7 +6,7 @@ use super::same::Candidate;
 use occ_base::{mixed, number_of_bytes};
 use occ_types::{PartSelector, Places};
 
-/// One number of a run. It is another sum than that of two numbers in a row, so that places which go up as lines go down stay apart.
+/// One number of a run. It is another sum than that of two numbers in a row, so that places which go up as counts go down stay apart.
 fn of_run(first: u64, count: u64) -> u64
     ensures { result ≡ number_of_run first count }
 {
@@ -48,7 +48,7 @@ fn with_selectors(seed: u64, selectors: &[PartSelector]) -> u64
 fn number_of(one: &Candidate<'_>) -> u64
     ensures { result ≡ spec_number_of one.now }
 {
-    let seed = mixed(mixed(0, one.part.root as u64), u64::from(one.line.line));
+    let seed = mixed(mixed(0, one.part.root as u64), one.chain.last() as u64);
     with_selectors(seed, one.part.selectors.as_slice())
 }
 

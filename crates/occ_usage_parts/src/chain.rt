@@ -1,7 +1,7 @@
 //! The abbreviations by whose names a part is reached. Most parts are reached by none or by one, which lies in place. Of a long
 //! chain the beginning is shared: a chain of abbreviations, each made from the one before, takes no square of memory.
 ghost use Rattle.std.specs.List.{filter, list_any};
-ghost use Rattle.std.specs.Prelude.{◌≡◌, ◌==◌, ◌++◌, ◌∷◌, [], IfOk, IsTrue, OnOk, length, nat_lt, slice_get, ℕ};
+ghost use Rattle.std.specs.Prelude.{◌≡◌, ◌==◌, ◌++◌, ◌∷◌, ◌-◌, [], IfOk, IsTrue, OnOk, length, nat_lt, slice_get, unwrap_or, ℕ};
 ghost use Rattle.occ_usage_parts.specs.inside.Chains.{numbers_in, shared_in};
 ghost use Rattle.std.specs.Str.{bytes_eq};
 
@@ -243,6 +243,28 @@ impl Chain {
     {
         let (shared, own) = self.parts();
         shared.len() + own.len()
+    }
+
+    /// The last of the numbers, or 0 where there is none.
+    #[inline(always)]
+    pub fn last(&self) -> usize
+        ensures { result ≡ unwrap_or (slice_get self.now (length self.now - 1)) 0 }
+    {
+        if self.is_none() {
+            return 0;
+        }
+        self.last_of_some()
+    }
+
+    /// The same, where there may be many.
+    fn last_of_some(&self) -> usize
+        ensures { result ≡ unwrap_or (slice_get self.now (length self.now - 1)) 0 }
+    {
+        let (shared, own) = self.parts();
+        match at(shared, own, self.len().saturating_sub(1)) {
+            Some(number) => number,
+            None => 0,
+        }
     }
 
     /// Whether two chains have the same numbers, in the same order.

@@ -1,5 +1,5 @@
 -- A number of each use, by which it is looked for: the same for those that are the same.
-use Rattle.std.specs.Prelude.{ℕ, ◌+◌, ◌-◌, ◌*◌, ◌/◌, ◌%◌, ◌^◌, bit_and, unsigned_abs, List, [], ◌∷◌}
+use Rattle.std.specs.Prelude.{ℕ, ◌+◌, ◌-◌, ◌*◌, ◌/◌, ◌%◌, ◌^◌, bit_and, length, slice_get, unsigned_abs, unwrap_or, List, [], ◌∷◌}
 use Rattle.occ_base.specs.Mixing.{mixed, number_of_bytes}
 use Rattle.occ_usage_values.specs.declared.uses.Use.{Use}
 use Rattle.occ_types.specs.declared.interface.PartSelector.{PartSelector}
@@ -7,7 +7,7 @@ use Rattle.occ_types.specs.declared.interface.PartSelector.TheVariants as s
 use Rattle.occ_types.specs.declared.interface.Places.{Places}
 use Rattle.occ_types.specs.declared.interface.Places.TheVariants as places
 
--- that of a run: no number of two in a row, so that places which go up as lines go down stay apart
+-- that of a run: no number of two in a row, so that places which go up as counts go down stay apart
 abbrev pub number_of_run : ℕ → ℕ → ℕ
 number_of_run first count = (first + count * 14029467366897019727 % 2 ^ 64) % 2 ^ 64
 
@@ -26,7 +26,7 @@ with_selectors seed [] = seed
 with_selectors seed (x ∷ xs) = with_selectors (mixed seed (number_of_selector x)) xs
 
 abbrev pub number_of : Use → ℕ
-number_of u = with_selectors (mixed (mixed 0 u.part.root) u.line.line) u.part.selectors
+number_of u = with_selectors (mixed (mixed 0 u.part.root) (unwrap_or (slice_get u.chain (length u.chain - 1)) 0)) u.part.selectors
 
 -- which of so many lists is that of a use: by the upper bits of its number, which are made of all of it
 abbrev pub bucket_of : Use → ℕ → ℕ
