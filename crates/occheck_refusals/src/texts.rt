@@ -12,6 +12,9 @@ use std::alloc::Global;
 /// A PAR with a race.
 pub const RACE: &str = "PROC p ()\n  INT x:\n  PAR\n    x := 1\n    x := 2\n:\n";
 
+/// Two rounds that each change an element.
+const ROUNDS: &str = "PROC p ()\n  [2]INT a:\n  SEQ i = 0 FOR 2\n    a[i] := 1\n:\n";
+
 /// A file with this text, as it is after the first edit.
 pub fn read(alloc: Global, name: &str, text: &str) -> Result<Read, Off> {
     let source = prepare(alloc, text.as_bytes())?;
@@ -91,6 +94,20 @@ pub fn uses(alloc: Global) -> Result<(), Off> {
     let summary = uses_of(alloc, &tree, 0)?;
     wanted(
         matches!(summary.uses.as_slice(), [first, second] if first.line.line == 4 && second.line.line == 5),
+    )?;
+    replicated(alloc)
+}
+
+/// A line under a replicator is there once for each index value, and its uses stand at it.
+fn replicated(alloc: Global) -> Result<(), Off> {
+    let mut reads = Items::new(alloc);
+    reads.push(read(alloc, "a.occ", ROUNDS)?)?;
+    let expanded = expand(alloc, &reads, FileName::read(b"a.occ")?)?;
+    let (lines, _faults) = expanded.into_lines();
+    let tree = type_unit(alloc, &shape(alloc, lines)?, &[])?;
+    let summary = uses_of(alloc, &tree, 0)?;
+    wanted(
+        matches!(summary.uses.as_slice(), [first, second] if first.line.line == 4 && second.line.line == 4),
     )
 }
 
