@@ -1,13 +1,11 @@
 -- Graphs in which no edge stands in a circle: each node rests on all to which edges lead from it.
-use Rattle.std.proofs.Common.{◌≡◌, ◌∙◌, ◌<◌, ℕ, Bool, true, false, cond, not, ◌||◌, ◌==◌, List, [], ◌∷◌, length, refl, sym, ap, arith}
+use Rattle.std.proofs.Common.{◌≡◌, ◌∙◌, ℕ, Bool, true, false, cond, not, ◌==◌, List, [], ◌∷◌, length, refl, sym, ap}
 use Rattle.std.specs.List.{filter}
 use Rattle.std.proofs.lemmas.Bool.{eq-eqb, eqb-true}
-use Rattle.occ_project_graph.specs.Graph.{Graph, all_rests, has_edge, is_among, is_circular, reaches, targets}
+use Rattle.occ_project_graph.specs.Graph.{Graph, all_rests, has_edge, is_among, is_circular, targets}
 use Rattle.occ_project_graph.specs.inside.Linking.{others}
-use Rattle.occ_project_graph.specs.inside.Ranking.{IsRanked, rank_at}
 use Rattle.occ_project_graph.proofs.Added.{all_rows, none_by, rests_long, rests_there}
-use Rattle.occ_project_graph.proofs.Circled.{falls}
-use Rattle.occ_project_graph.proofs.Ways.{edge_below, first_holds, second_holds}
+use Rattle.occ_project_graph.proofs.Ways.{first_holds, second_holds}
 
 -- a test that all pass leaves all
 all_pass : (test : ℕ → Bool) (ws : List ℕ) → ((v : ℕ) → is_among ws v ≡ true → test v ≡ true) → filter test ws ≡ ws
@@ -16,24 +14,11 @@ all_pass test (w ∷ ws) pass =
     ap (λ (b : Bool). cond b (w ∷ filter test ws) (filter test ws)) (pass w (first_holds (w == w) (is_among ws w) (eq-eqb w w refl)))
     ∙ ap (λ (vs : List ℕ). w ∷ vs) (all_pass test ws (λ v h. pass v (second_holds (w == v) (is_among ws v) h)))
 
--- where each node has a rank no edge stands in a circle
-no_circle : (g : Graph) (ranks : List ℕ) → IsRanked g ranks → ((u : ℕ) → u < length g → 0 < rank_at ranks u) → (u v : ℕ) → has_edge g u v ≡ true → is_circular g u v ≡ false
-no_circle g ranks ranked over u v edge = none_by (is_circular g u v) (λ h. by (u == v) (reaches g v u) refl refl h) where
-  fall : (0 < rank_at ranks v) × (rank_at ranks v < rank_at ranks u)
-  fall = ranked u v edge (over u (edge_below g u v edge))
-
-  by : (a b : Bool) → (u == v) ≡ a → reaches g v u ≡ b → (a || b) ≡ true → ⊥
-  by true b e f h = let same : rank_at ranks u ≡ rank_at ranks v = ap (rank_at ranks) (eqb-true u v e) in omega (arith, fall, same)
-  by false true e f h = let back = falls g ranks ranked v u f fall.0 in omega (arith, fall, back)
-  by false false e f h = cc
-
-pub free_rests : (g : Graph) (ranks : List ℕ) → IsRanked g ranks → length ranks ≡ length g → ((u : ℕ) → u < length ranks → 0 < rank_at ranks u) → g ≡ all_rests g
-free_rests g ranks ranked len over = all_rows g (all_rests g) (omega (arith, long)) (λ u lt. sym (rests_there g u ∙ all_pass (λ v. not (is_circular g u v)) (targets g u) (λ v h. ap not (no_circle g ranks ranked has u v h)))) where
+-- where no edge stands in a circle
+pub free_rests : (g : Graph) → ((u v : ℕ) → has_edge g u v ≡ true → is_circular g u v ≡ false) → g ≡ all_rests g
+free_rests g none = all_rows g (all_rests g) (sym long) (λ u lt. sym (rests_there g u ∙ all_pass (λ v. not (is_circular g u v)) (targets g u) (λ v h. ap not (none u v h)))) where
   long : length (all_rests g) ≡ length g
   long = rests_long g 0 (length g)
-
-  has : (u : ℕ) → u < length g → 0 < rank_at ranks u
-  has u lt = over u (omega (arith, lt, len))
 
 -- where a node is not among these, the others are all
 pub all_others : (at : ℕ) (ws : List ℕ) → is_among ws at ≡ false → others at ws ≡ ws

@@ -2,16 +2,14 @@ pub mod Ways
 pub mod Heights
 pub mod Turns
 pub mod Searches
-pub mod Ranked
-pub mod Circled
 pub mod Turned
+pub mod Circled
 pub mod Added
 pub mod Replaced
 pub mod Pushed
 pub mod Numbered
 pub mod Renumbered
 pub mod Free
-pub mod Mates
 pub mod Joined
 pub mod Led
 pub mod Rising

@@ -1,13 +1,22 @@
 //! The rows of a graph where one node more comes to an index, to which edges lead from others and from which none leads.
 ghost use Rattle.occ_project_graph.specs.inside.Linking.{AreLed, AreLedRests, IsLed, marked, rests_kept};
 ghost use Rattle.occ_project_graph.specs.Graph.{Graph};
-ghost use Rattle.std.specs.Prelude.{◌≡◌, ◌++◌, ◌∷◌, [], IfOk, OnErr, OnOk, cond};
+ghost use Rattle.std.specs.Prelude.{◌≡◌, ◌++◌, ◌∷◌, [], IfOk, OnErr, OnOk, cond, false, get_or};
 
 use super::adding::{put_rows, source_row};
-use super::reaching::is_known;
 use super::search::targets as row;
 use sqlite_items::Items;
 use std::alloc::{AllocError, Global};
+
+/// Whether a node is marked.
+fn is_known(marks: &[bool], node: usize) -> bool
+    ensures { result ≡ get_or marks.now node false }
+{
+    match marks.get(node) {
+        Some(mark) => *mark,
+        None => false,
+    }
+}
 
 /// The rows of these nodes, to each of which the one of the next number is added, which comes to an index.
 pub fn led_rows(

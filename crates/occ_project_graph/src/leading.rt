@@ -5,8 +5,7 @@ ghost use Rattle.occ_project_graph.specs.inside.Numbering.{graph_by, indexed};
 ghost use Rattle.std.specs.Prelude.{◌≡◌, ◌<◌, ◌++◌, ℕ, IfOk, OnOk, get_or, length, map, slice_set};
 
 use super::adding::{add_times, count_of};
-use super::reaching::no_marks;
-use super::search::{is_marked, number_at, search, targets as row};
+use super::search::{number_at, search, targets as row, unseen};
 use sqlite_items::Items;
 use std::alloc::{AllocError, Global};
 use std::mem;
@@ -123,9 +122,9 @@ pub fn is_reached(alloc: Global, graph: &[Items<usize>], node: usize) -> Result<
     requires { node < length graph.now }
     ensures { IfOk result (λ is. is ≡ reaches graph.now node node) }
 {
-    let base = no_marks(alloc, graph.len())?;
-    let seen = search(alloc, graph, base.as_slice(), node)?;
-    Ok(is_marked(seen.marks.as_slice(), node))
+    let mut seen = unseen(alloc, graph.len())?;
+    search(alloc, graph, &[], 0, node, &mut seen)?;
+    Ok(number_at(seen.marks.as_slice(), node) > 0)
 }
 
 /// The indices of the nodes of these numbers.

@@ -10,8 +10,6 @@ mod linked;
 mod nodes;
 mod numbering;
 mod order;
-mod ranks;
-mod reaching;
 mod resting;
 pub mod rows;
 mod search;

@@ -1,83 +1,81 @@
-//! Orders of nodes in which targets come first. They have no contract: a node that one leaves out is searched, so it costs
-//! time alone.
-use super::search::{is_marked, targets as row};
+//! An order of nodes for which components are found at once. It has no contract: in another one they are found too, in more time.
+use super::search::targets;
 use sqlite_items::Items;
 use std::alloc::{AllocError, Global};
 
-/// The nodes in an order in which each that reaches no circle stands after all to which edges lead from it; nodes that
-/// reach a circle are left out. The sources are those of the graph turned round. It promises nothing: what it leaves out or puts
-/// wrongly costs time.
-pub fn in_order(
-    alloc: Global,
-    graph: &[Items<usize>],
-    sources: &[Items<usize>],
-) -> Result<Vec<usize>, AllocError> {
-    let mut left = Vec::new(alloc);
-    let mut order = Vec::new(alloc);
-    for (node, targets) in graph.iter().enumerate() {
-        left.push(targets.len())?;
-        if targets.is_empty() {
-            order.push(node)?;
-        }
-    }
-    for index in 0..graph.len() {
-        let Some(node) = order.get(index) else {
-            break;
-        };
-        if let Some(sources) = sources.get(*node) {
-            release(sources.as_slice(), &mut left, &mut order)?;
-        }
-    }
-    Ok(order)
+/// A walk along edges, depth first.
+#[derive(Drop)]
+struct Walk {
+    /// Of each node whether the walk has come to it.
+    seen: Items<bool>,
+    /// The nodes that it has not left yet, each with the number of its edges that it has gone along.
+    path: Vec<(usize, usize)>,
+    /// The nodes that it has left, in that order.
+    left: Vec<usize>,
 }
 
-/// One more node to which edges lead from these is in order; those that wait for no other follow.
-fn release(
-    sources: &[usize],
-    left: &mut Vec<usize>,
-    order: &mut Vec<usize>,
-) -> Result<(), AllocError> {
-    for source in sources {
-        if let Some(count) = left.get_mut(*source) {
-            *count = count.saturating_sub(1);
-            if *count == 0 {
-                order.push(*source)?;
-            }
+/// Whether the walk has still to come to a node.
+fn is_new(seen: &[bool], node: usize) -> bool {
+    matches!(seen.get(node), Some(false))
+}
+
+/// The walk comes to a node, if it has not yet.
+fn enter(walk: &mut Walk, node: usize) -> Result<(), AllocError> {
+    if node < walk.seen.len() && is_new(walk.seen.as_slice(), node) {
+        walk.seen.set(node, true);
+        walk.path.push((node, 0))?;
+    }
+    Ok(())
+}
+
+/// The number of the first of these nodes, from one on, that the walk has still to come to; if there is none, how many they are.
+fn next_new(seen: &[bool], nodes: &[usize], from: usize) -> usize {
+    for number in from..nodes.len() {
+        if is_new(seen, nodes[number]) {
+            return number;
+        }
+    }
+    nodes.len()
+}
+
+/// The walk goes along the next edge of the node that it is at to one that it has not come to, or leaves it. It says whether it was
+/// at one.
+fn step(graph: &[Items<usize>], walk: &mut Walk) -> Result<bool, AllocError> {
+    let Some((node, gone)) = walk.path.pop() else {
+        return Ok(false);
+    };
+    let targets = targets(graph, node);
+    let next = next_new(walk.seen.as_slice(), targets, gone);
+    match targets.get(next) {
+        Some(target) => {
+            walk.path.push((node, next + 1))?;
+            enter(walk, *target)?;
+        }
+        None => walk.left.push(node)?,
+    }
+    Ok(true)
+}
+
+/// The walk goes on until it has left all that it came to.
+fn finish(graph: &[Items<usize>], walk: &mut Walk) -> Result<(), AllocError> {
+    for _ in 0..u64::MAX {
+        if !step(graph, walk)? {
+            break;
         }
     }
     Ok(())
 }
 
-/// The nodes from which edges lead to a goal, each after one to which an edge leads from it, so breadth first against the edges.
-/// It promises nothing: what it leaves out or puts wrongly costs time.
-pub fn order_back(
-    alloc: Global,
-    sources: &[Items<usize>],
-    goal: usize,
-) -> Result<Vec<usize>, AllocError> {
-    let mut seen = Items::from_vec(vec![in alloc; false; sources.len()]?);
-    let mut order = Vec::new(alloc);
-    come_to(row(sources, goal), &mut seen, &mut order)?;
-    for index in 0..sources.len() {
-        let Some(node) = order.get(index) else {
-            break;
-        };
-        come_to(row(sources, *node), &mut seen, &mut order)?;
+/// The nodes of a graph in the order in which a walk along all edges, depth first, leaves them.
+pub fn left_in_order(alloc: Global, graph: &[Items<usize>]) -> Result<Vec<usize>, AllocError> {
+    let mut walk = Walk {
+        seen: Items::from_vec(vec![in alloc; false; graph.len()]?),
+        path: Vec::new(alloc),
+        left: Vec::with_capacity(alloc, graph.len())?,
+    };
+    for node in 0..graph.len() {
+        enter(&mut walk, node)?;
+        finish(graph, &mut walk)?;
     }
-    Ok(order)
-}
-
-/// These nodes follow in order, but for those that were come to before.
-fn come_to(
-    nodes: &[usize],
-    seen: &mut Items<bool>,
-    order: &mut Vec<usize>,
-) -> Result<(), AllocError> {
-    for node in nodes {
-        if *node < seen.len() && !is_marked(seen.as_slice(), *node) {
-            seen.set(*node, true);
-            order.push(*node)?;
-        }
-    }
-    Ok(())
+    Ok(walk.left)
 }

@@ -1,7 +1,7 @@
-//! Marks all nodes that edges lead to from one node, but for those marked before. It goes breadth first, with a queue.
-ghost use Rattle.std.specs.Prelude.{◌≡◌, ◌<◌, ◌+◌, ℕ, false, length, get_or, [], IfOk, IsFalse, OnOk};
-ghost use Rattle.occ_project_graph.specs.Graph.{reaches, targets as spec_targets};
-ghost use Rattle.occ_project_graph.specs.inside.Searching.{IsClosed, mark_at, seen_all, seen_with, unmarked};
+//! Goes along edges from one node and gives a mark to all that it comes to. It goes breadth first, with a queue.
+ghost use Rattle.std.specs.Prelude.{◌≡◌, ◌<◌, ◌+◌, List, ℕ, get_or, length, replicate, IfOk, IsTrue, OnOk};
+ghost use Rattle.occ_project_graph.specs.Graph.{targets as spec_targets};
+ghost use Rattle.occ_project_graph.specs.inside.Searching.{IsFound, IsFresh, IsSearch, is_next as spec_is_next, seen_all, seen_with};
 
 use sqlite_items::Items;
 use std::alloc::{AllocError, Global};
@@ -9,8 +9,8 @@ use std::alloc::{AllocError, Global};
 /// What a search has come to.
 #[derive(Drop)]
 pub struct Seen {
-    /// Of each node whether it was come to, or was marked before.
-    pub marks: Items<bool>,
+    /// The mark of each node.
+    pub marks: Items<usize>,
     /// The nodes that it came to, in that order.
     pub queue: Items<usize>,
 }
@@ -35,59 +35,91 @@ pub fn number_at(numbers: &[usize], index: usize) -> usize
     }
 }
 
-/// Whether a node is marked. What is no node counts as marked.
-pub fn is_marked(marks: &[bool], node: usize) -> bool
-    ensures value { result ≡ mark_at marks.now node }
-    ensures within { IsFalse result → node < length marks.now }
+/// Before any search no node has a mark.
+pub fn unseen(alloc: Global, count: usize) -> Result<Seen, AllocError>
+    ensures { IfOk result (λ seen. seen.marks ≡ replicate count 0) }
 {
-    match marks.get(node) {
-        Some(mark) => *mark,
-        None => true,
-    }
+    Ok(Seen {
+        marks: Items::from_vec(vec![in alloc; 0; count]?),
+        queue: Items::new(alloc),
+    })
 }
 
-/// A node is come to: it is marked and queued, unless it is marked.
-fn see(seen: &mut Seen, node: usize) -> Result<(), AllocError>
-    ensures { OnOk result (seen.new ≡ seen_with seen.old node) }
+/// Whether a search goes on to a node, which has this mark among others, and not yet the one that the search gives.
+fn is_next(marks: &[usize], others: &[usize], other: usize, mark: usize, node: usize) -> bool
+    ensures value { result ≡ spec_is_next others.now other mark marks.now node }
+    ensures within { IsTrue result → node < length marks.now }
 {
-    if is_marked(seen.marks.as_slice(), node) {
-        return Ok(());
+    node < marks.len() && number_at(others, node) == other && number_at(marks, node) != mark
+}
+
+/// A node is come to: it gets the mark and is queued, if the search goes on to it.
+fn see(
+    seen: &mut Seen,
+    others: &[usize],
+    other: usize,
+    mark: usize,
+    node: usize,
+) -> Result<(), AllocError>
+    ensures { OnOk result (seen.new ≡ seen_with others.now other mark seen.old node) }
+{
+    if is_next(seen.marks.as_slice(), others, other, mark, node) {
+        seen.queue.push(node)?;
+        seen.marks.set(node, mark);
     }
-    seen.queue.push(node)?;
-    seen.marks.set(node, true);
     Ok(())
 }
 
 /// These nodes are come to, one after the other.
-fn see_all(seen: &mut Seen, nodes: &[usize]) -> Result<(), AllocError>
-    ensures { OnOk result (seen.new ≡ seen_all seen.old nodes.now) }
+fn see_all(
+    seen: &mut Seen,
+    others: &[usize],
+    other: usize,
+    mark: usize,
+    nodes: &[usize],
+) -> Result<(), AllocError>
+    ensures { OnOk result (seen.new ≡ seen_all others.now other mark seen.old nodes.now) }
 {
     for node in nodes {
-        see(seen, *node)?;
+        see(seen, others, other, mark, *node)?;
     }
     Ok(())
 }
 
-/// Marks the nodes to which edges lead from a node, beside those of the base, which is gone through by no way. Nothing is said of the
-/// nodes that it came to.
-pub fn search(
-    alloc: Global,
+/// Goes on from each node of the queue, until no node is left in it.
+fn go_on(
     graph: &[Items<usize>],
-    base: &[bool],
-    from: usize,
-) -> Result<Seen, AllocError>
-    requires { IsClosed graph.now base.now }
-    ensures { IfOk result (λ seen. (v : ℕ) → mark_at base.now v ≡ false → mark_at seen.marks v ≡ reaches graph.now from v) }
+    others: &[usize],
+    other: usize,
+    mark: usize,
+    seen: &mut Seen,
+) -> Result<(), AllocError>
+    ensures { OnOk result ((from : ℕ) (old : List ℕ) → mark ≡ from + 1 → IsSearch graph.now others.now other from old seen.old 0 → IsFound graph.now others.now other from old seen.new.marks) }
 {
-    let marks = Items::from_slice(alloc, base)?;
-    let queue = Items::new(alloc);
-    let mut seen = Seen { marks, queue };
-    see_all(&mut seen, targets(graph, from))?;
     let mut index = 0;
     while index < seen.queue.len() {
         let node = number_at(seen.queue.as_slice(), index);
-        see_all(&mut seen, targets(graph, node))?;
+        see_all(seen, others, other, mark, targets(graph, node))?;
         index += 1;
     }
-    Ok(seen)
+    Ok(())
+}
+
+/// Gives a mark, which is the node's index and 1, to the nodes that edges lead to from it through such as have a mark among others.
+/// No node may have it before.
+pub fn search(
+    alloc: Global,
+    graph: &[Items<usize>],
+    others: &[usize],
+    other: usize,
+    from: usize,
+    seen: &mut Seen,
+) -> Result<(), AllocError>
+    requires from { from < length graph.now }
+    requires fresh { IsFresh from seen.old.marks }
+    ensures { OnOk result (IsFound graph.now others.now other from seen.old.marks seen.new.marks) }
+{
+    seen.queue = Items::new(alloc);
+    see_all(seen, others, other, from + 1, targets(graph, from))?;
+    go_on(graph, others, other, from + 1, seen)
 }

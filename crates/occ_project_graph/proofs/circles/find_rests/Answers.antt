@@ -1,9 +1,10 @@
-use Rattle.std.proofs.Common.{◌<◌, ℕ, List, length, subst}
-use Rattle.occ_project_graph.specs.inside.Ranking.{rank_at}
+use Rattle.std.proofs.Common.{rules, ◌≡◌, true}
+use Rattle.occ_project_graph.specs.inside.Components.{all_apart}
+use Rattle.occ_project_graph.proofs.Circled.{none_circular}
 use Rattle.occ_project_graph.proofs.Free.{free_rests}
 use Rattle.occ_project_graph.proofs.circles.find_rests.Goals as goal
 
-pub returns-then-have_all_ranks : goal.returns-then-have_all_ranks
-returns-then-have_all_ranks c =
-    let over = subst (λ (ranks : List ℕ). (u : ℕ) → u < length ranks → 0 < rank_at ranks u) c.as_slice-2.ensures (c.have_all_ranks.ensures.0 c.if-have_all_ranks.true) in
-    free_rests c.args.graph.now c.in_ok-ranks.ranks c.in_ok-ranks.ensures.ranked c.in_ok-ranks.ensures.len over
+pub returns-then-all_apart : goal.returns-then-all_apart
+returns-then-all_apart c =
+    let apart : all_apart c.in_ok-numbers.numbers 0 c.args.graph.now ≡ true = search rules in
+    free_rests c.args.graph.now (none_circular c.args.graph.now c.in_ok-numbers.numbers c.in_ok-numbers.ensures c.requires.whole apart)

@@ -1,7 +1,7 @@
-use Rattle.std.proofs.Common.{rules, ◌≡◌, ◌∙◌, ◌<◌, ◌++◌, [], ℕ, List, ap, arith, false, get_or, length, map, refl, subst, sym, true}
+use Rattle.std.proofs.Common.{rules, ◌≡◌, ◌∙◌, ◌<◌, ◌++◌, [], ℕ, List, ap, arith, false, get_or, length, map, refl, subst, sym}
 use Rattle.std.proofs.lemmas.List.{get_or_default}
 use Rattle.std.specs.Prelude.{slice_set}
-use Rattle.occ_project_graph.specs.Graph.{Graph, is_among, reaches, targets}
+use Rattle.occ_project_graph.specs.Graph.{Graph, reaches, targets}
 use Rattle.occ_project_graph.specs.inside.Leading.{later_rows}
 use Rattle.occ_project_graph.specs.inside.Linking.{IsLinked, rests_kept, with_rows}
 use Rattle.occ_project_graph.specs.inside.Numbering.{graph_by}
