@@ -54,10 +54,10 @@ turned_edge : (g rows : Graph) → IsTurned g rows → (u v : ℕ) → has_edge 
 turned_edge g rows is u v h =
     let l = edge_below rows v u h in
     let len = is.len in
-    only g u v (subst (λ (ws : List ℕ). is_among ws u ≡ true) (is.are v (omega (arith, l, len))) h)
+    only g u v (subst (λ (ws : List ℕ). is_among ws u ≡ true) (is.sources_are v (omega (arith, l, len))) h)
 
 edge_turned : (g rows : Graph) → IsWhole g → IsTurned g rows → (u v : ℕ) → has_edge g u v ≡ true → has_edge rows v u ≡ true
-edge_turned g rows whole is u v h = subst (λ (ws : List ℕ). is_among ws u ≡ true) (sym (is.are v (whole u v h))) (reported g u v h)
+edge_turned g rows whole is u v h = subst (λ (ws : List ℕ). is_among ws u ≡ true) (sym (is.sources_are v (whole u v h))) (reported g u v h)
 
 turned_path : (g rows : Graph) → IsTurned g rows → (ws : List ℕ) (u v : ℕ) → Path rows u ws v → reaches g v u ≡ true
 turned_path g rows is [] u v p = edge_reaches g (length g) v u (turned_edge g rows is v u p)

@@ -8,11 +8,12 @@ use Rattle.std.proofs.lemmas.List.FromFn.{get_or-range_with_len, length-range_wi
 use Rattle.occ_project_graph.specs.Adding.{raised, with_node}
 use Rattle.occ_project_graph.specs.Graph.{Graph, IsWhole, all_rests, has_edge, is_among, is_circular, targets}
 use Rattle.occ_project_graph.specs.Sources.{once_each, sources}
+use Rattle.occ_project_graph.specs.inside.Components.{IsTurned}
 use Rattle.occ_project_graph.specs.inside.Linking.{IsLinked, before, following, others, sources_then, with_rows}
 use Rattle.occ_project_graph.specs.inside.Numbering.{AreSourceRows, IsFrontBefore, IsNumbered, IsOver, IsSourceRow, graph_by, index_at, indexed, times_in}
 use Rattle.occ_project_graph.proofs.Added.{all_rests_then, all_rows, parted, passed, raised_above, raised_below, rests_long, rests_there}
 use Rattle.occ_project_graph.proofs.Numbered.{AreFew, by_at, by_long, few_first, few_rest, graph_after, index_new, index_old, indexed_old, indices_after, numbered_after, numbers_after, numbers_few, numbers_long, numbers_back, others_indexed, over_push, rows_by, times_indexed}
-use Rattle.occ_project_graph.proofs.Replaced.{IsTurned, rows_long, set_apart, set_here, set_past, sources_kept, till_new, till_raised}
+use Rattle.occ_project_graph.proofs.Replaced.{rows_long, set_apart, set_here, set_past, sources_kept, till_new, till_raised}
 use Rattle.occ_project_graph.proofs.Turned.{only}
 use Rattle.occ_project_graph.proofs.Ways.{edge_below, first_holds}
 

@@ -6,6 +6,7 @@ use Rattle.std.proofs.lemmas.List.{append-nil, length-take-le, take_more}
 use Rattle.occ_project_graph.specs.Adding.{raised, with_node}
 use Rattle.occ_project_graph.specs.Graph.{Graph, is_among}
 use Rattle.occ_project_graph.specs.Sources.{once_each, sources}
+use Rattle.occ_project_graph.specs.inside.Components.{IsTurned}
 use Rattle.occ_project_graph.specs.inside.Linking.{before, following, sources_then, sources_till, with_rows}
 use Rattle.occ_project_graph.proofs.Added.{here_or, long_then, none_by, once_none, raised_above, raised_apart, raised_below, row_new, row_then, sources_moved, sources_new, sources_raised}
 use Rattle.occ_project_graph.proofs.Ways.{first_holds, second_holds}
@@ -104,12 +105,6 @@ rows_at f g (w ∷ ws) q lt = by (w == q) refl (rows_at f g ws q lt) where
       ap (λ (x : ℕ). get_or (slice_set (with_rows g ws (map f ws)) x (f x)) q []) same ∙ set_here (with_rows g ws (map f ws)) q (f q) (omega (arith, lt, long))
   by false e rest = set_apart (with_rows g ws (map f ws)) w q (f w) (eqb-false w q e) ∙ rest
 
--- a graph and its edges turned round
-pub record IsTurned (g turned : Graph) : Type 0 where
-  pub len : length turned ≡ length g
-  pub sources_are : (v : ℕ) → v < length g → get_or turned v [] ≡ sources g v
-
--- where edges lead from then
 module _ (g turned : Graph) (p : ℕ) (ws : List ℕ) (is : IsTurned g turned) (h : p ≤ length g) where
   index : p ≤ length turned
   index = let len = is.len in omega (arith, h, len)

@@ -17,9 +17,9 @@ abbrev pub AreAll : Graph → List ℕ → Type 0
 AreAll g numbers = (u v : ℕ) → u < length g → v < length g → (component_at numbers u ≡ component_at numbers v) ↔ AreMutual g u v
 
 -- for each node of a graph those from which edges lead to it
-pub record IsTurned (g rows : Graph) : Type 0 where
-  pub len : length rows ≡ length g
-  pub are : (v : ℕ) → v < length g → get_or rows v [] ≡ sources g v
+pub record IsTurned (g turned : Graph) : Type 0 where
+  pub len : length turned ≡ length g
+  pub sources_are : (v : ℕ) → v < length g → get_or turned v [] ≡ sources g v
 
 -- Whole components have numbers over 0. A number or a mark is given only where the node that it is of has a number, too.
 pub record AreComponents (g : Graph) (numbers marks : List ℕ) : Type 0 where
