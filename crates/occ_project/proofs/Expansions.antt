@@ -1,5 +1,5 @@
 -- The expansion of a unit is what is made of its entries.
-use Rattle.std.proofs.Common.{◌≡◌, ℕ, false, List, [], ◌∷◌, ◌++◌, take, drop, Option, refl, ap, ◌∙◌}
+use Rattle.std.proofs.Common.{◌≡◌, ℕ, List, ◌∷◌, ◌++◌, take, drop, Option, refl, ap, ◌∙◌}
 use Rattle.std.specs.List.{flat_map}
 use Rattle.occ_base.specs.Firsts.{first_indices}
 use Rattle.occ_base.specs.declared.diag.Diag.{Diag}
