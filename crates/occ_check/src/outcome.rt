@@ -10,7 +10,7 @@ use super::job::Job;
 use super::language::{Judgement, judge};
 use super::order::in_order;
 use occ_base::{Diag, Items, Shared, has_error};
-use occ_project::expand_over;
+use occ_project::expanded_lines;
 use occ_types::Interface;
 use std::alloc::{AllocError, Global};
 use std::marker::Model;
@@ -127,8 +127,7 @@ type OutcomeParts = (Shared<Items<Diag>>, Option<Shared<Interface>>);
 fn judged(alloc: Global, job: &Job) -> Result<Judgement, AllocError>
     ensures { IfOk result (λ judgement. judgement ≡ spec_judged job.now) }
 {
-    let expanded = expand_over(alloc, job.reads(), job.unit())?;
-    let (lines, mut faults) = expanded.into_lines();
+    let (lines, mut faults) = expanded_lines(alloc, job.reads(), job.unit())?;
     find_line_faults(alloc, job.used(), lines.as_slice(), &mut faults)?;
     if faults.is_empty() {
         judge(alloc, lines, job.used())

@@ -1,5 +1,5 @@
 -- The expansion of a unit is what is made of its entries.
-use Rattle.std.proofs.Common.{◌≡◌, ℕ, false, List, [], ◌∷◌, ◌++◌, take, drop, Option, refl, ap, ◌∙◌}
+use Rattle.std.proofs.Common.{◌≡◌, ℕ, List, ◌∷◌, ◌++◌, take, drop, Option, refl, ap, ◌∙◌}
 use Rattle.std.specs.List.{flat_map}
 use Rattle.occ_base.specs.Firsts.{first_indices}
 use Rattle.occ_base.specs.declared.diag.Diag.{Diag}
@@ -8,18 +8,10 @@ use Rattle.occ_project.specs.declared.entry.ExpansionEntry.{ExpansionEntry}
 use Rattle.occ_project.specs.declared.expanded.ExpandedLine.{ExpandedLine}
 use Rattle.occ_project.specs.declared.making.Made.{Made}
 use Rattle.occ_project.specs.declared.reads.Read.{Read}
-use Rattle.occ_project.specs.Expansion.{Expansion, entry_faults, entry_lines, entry_names, expansion, expansion_of, limit_faults, unit_entries}
-use Rattle.occ_project.specs.inside.Making.{after}
+use Rattle.occ_project.specs.Expansion.{entry_faults, entry_lines, entry_names, expansion, expansion_of, limit_faults, unit_entries}
+use Rattle.occ_project.specs.inside.Making.{after, shown, started}
 use Rattle.occ_project.specs.Reads.{open_lines}
 use Rattle.occ_project.proofs.Made.{made_of}
-
--- at the start the unit alone is looked up
-abbrev pub started : ℕ → List ℕ → Made
-started room unit = record { lines = []; faults = []; names = unit ∷ []; room = room; is_over = false }
-
--- what was made, with the names that were looked up at their first indices
-abbrev pub shown : Made → Expansion
-shown made = record { lines = made.lines; reads = first_indices made.names; faults = made.faults }
 
 whole : (lines : List ExpandedLine) (names : List (List ℕ)) (faults : List Diag) (made : Made) → made.lines ≡ lines → made.names ≡ names → made.faults ≡ faults
     → shown made ≡ record { lines = lines; reads = first_indices names; faults = faults }

@@ -3,7 +3,7 @@
 ghost use Rattle.occ_base.specs.Firsts.{first_indices as spec_first_indices};
 ghost use Rattle.occ_project.specs.Entries.{entries, held as spec_held, included, put_in, use_line as spec_use_line};
 ghost use Rattle.occ_project.specs.Expansion.{expansion, not_given};
-ghost use Rattle.occ_project.specs.inside.Making.{after, step};
+ghost use Rattle.occ_project.specs.inside.Making.{after, shown, started, step};
 ghost use Rattle.occ_project.specs.declared.entry.Held.TheVariants as holds;
 ghost use Rattle.occ_project.specs.declared.expanded.ExpandedBody.TheVariants as to;
 ghost use Rattle.occ_project.specs.declared.expansion.ExpandFault.TheVariants.{Memory, NotGiven};
@@ -11,12 +11,12 @@ ghost use Rattle.std.specs.Option.{option_map};
 ghost use Rattle.std.specs.Prelude.{Err, IfOk, List, None, OnOk, Some, ℕ, ◌*◌, ◌+◌, ◌^◌, ◌≡◌, ◌≤◌};
 
 use super::entry::{ExpansionEntry, Held};
-use super::expanded::{Expanded, ExpandedBody};
+use super::expanded::{Expanded, ExpandedBody, ExpandedLine};
 use super::files::Files;
 use super::line_units::UsedUnits;
 use super::making::Made;
 use super::reads::Reads;
-use occ_base::{Boxed, FileName, Items, Shared, first_indices, one_item};
+use occ_base::{Boxed, Diag, FileName, Items, Shared, first_indices, one_item};
 use occ_forms::{Form, LineBody, SourceLine};
 use std::alloc::{AllocError, Global};
 use thiserror::Error;
@@ -199,12 +199,30 @@ fn add_file(
     Ok(())
 }
 
-/// How many lines a file has, if it is open.
-fn count_of(found: Option<&[SourceLine]>) -> usize {
-    match found {
-        Some(lines) => lines.len(),
-        None => 0,
+/// How many of the lines look a file up that they include.
+fn includes(lines: &[SourceLine]) -> usize {
+    let mut count: usize = 0;
+    for line in lines {
+        if matches!(line.body, LineBody::Include(_)) {
+            count = count.saturating_add(1);
+        }
     }
+    count
+}
+
+/// Nothing is made yet of the unit, which has these lines if it is open. There is room for what they come to by themselves.
+fn nothing_made(
+    alloc: Global,
+    unit: FileName,
+    found: Option<&[SourceLine]>,
+) -> Result<Made, AllocError>
+    ensures { IfOk result (λ made. made ≡ started 65535 unit) }
+{
+    let (lines, looked_up) = match found {
+        Some(lines) => (lines.len(), includes(lines)),
+        None => (0, 0),
+    };
+    Made::new(alloc, unit, lines, looked_up, LINE_LIMIT)
 }
 
 /// Each name once, at its first index. Most units look up no file but their own.
@@ -217,12 +235,12 @@ fn each_once(alloc: Global, names: Items<FileName>) -> Result<Items<FileName>, A
     first_indices(alloc, names.as_slice())
 }
 
-/// The expansion of the unit over these files.
-fn expanded(alloc: Global, files: &Files<'_>, unit: FileName) -> Result<Expanded, AllocError>
-    ensures { IfOk result (λ expanded. expanded ≡ expansion files.now.reads.now unit) }
+/// What the lines of the unit over these files come to.
+fn made(alloc: Global, files: &Files<'_>, unit: FileName) -> Result<Made, AllocError>
+    ensures { IfOk result (λ made. shown made ≡ expansion files.now.reads.now unit) }
 {
     let found = files.open_lines(unit);
-    let mut made = Made::new(alloc, unit, count_of(found), LINE_LIMIT)?;
+    let mut made = nothing_made(alloc, unit, found)?;
     if let Some(lines) = found {
         let file = Shared::new(alloc, unit)?;
         let opened = Opened {
@@ -233,14 +251,36 @@ fn expanded(alloc: Global, files: &Files<'_>, unit: FileName) -> Result<Expanded
         let mut way = one_item(alloc, unit)?;
         add_file(alloc, files, &mut way, &opened, lines, &mut made)?;
     }
+    Ok(made)
+}
+
+/// The expansion of the unit over these files.
+fn expanded(alloc: Global, files: &Files<'_>, unit: FileName) -> Result<Expanded, AllocError>
+    ensures { IfOk result (λ expanded. expanded ≡ expansion files.now.reads.now unit) }
+{
     let Made {
         lines,
         faults,
         names,
         ..
-    } = made;
+    } = made(alloc, files, unit)?;
     let reads = each_once(alloc, names)?;
     Ok(Expanded::of(lines, reads, faults))
+}
+
+/// The lines and the faults of the expansion of the unit over these files: one that is not among them counts as absent.
+/// What it looks up is not gone through.
+pub fn expanded_lines(
+    alloc: Global,
+    reads: &Reads,
+    unit: FileName,
+) -> Result<(Items<ExpandedLine>, Items<Diag>), AllocError>
+    ensures lines { IfOk result (λ found. found.0 ≡ (expansion reads.now unit).lines) }
+    ensures faults { IfOk result (λ found. found.1 ≡ (expansion reads.now unit).faults) }
+{
+    let files = Files::new(alloc, reads)?;
+    let Made { lines, faults, .. } = made(alloc, &files, unit)?;
+    Ok((lines, faults))
 }
 
 /// The expansion of the unit over these files: one that is not among them counts as absent.

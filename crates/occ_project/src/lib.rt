@@ -14,7 +14,7 @@ mod rows;
 mod uses;
 
 pub use expanded::{Expanded, ExpandedBody, ExpandedLine, Location};
-pub use expansion::{ExpandFault, expand, expand_over};
+pub use expansion::{ExpandFault, expand, expand_over, expanded_lines};
 pub use line_units::UsedUnits;
 pub use reads::{Read, Reads};
 pub use rows::{fault_rows, include_rows, library_rows, limit_rows, read_rows, use_rows};

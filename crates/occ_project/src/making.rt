@@ -6,7 +6,7 @@ ghost use Rattle.std.specs.Prelude.{IfOk, OnOk, [], false, ◌≡◌, ◌++◌, 
 
 use super::entry::{ExpansionEntry, Held};
 use super::expanded::{ExpandedBody, ExpandedLine};
-use occ_base::{Code, Diag, FileName, Items, Name, one_item};
+use occ_base::{Code, Diag, FileName, Items, Name};
 use std::alloc::{AllocError, Global};
 
 /// An expansion that is being made.
@@ -64,19 +64,25 @@ fn too_many(entry: &ExpansionEntry) -> Diag
 }
 
 impl Made {
-    /// The unit is looked up, and nothing comes yet; so many lines are expected, and so many entries may come.
+    /// The unit is looked up, and nothing comes yet; so many lines and so many further look-ups are expected, and so many
+    /// entries may come.
     pub fn new(
         alloc: Global,
         unit: FileName,
-        expected: usize,
+        lines: usize,
+        looked_up: usize,
         room: usize,
     ) -> Result<Made, AllocError>
         ensures { IfOk result (λ made. made ≡ record { lines = []; faults = []; names = unit ∷ []; room = room; is_over = false }) }
     {
+        let lines = Items::from_vec(Vec::with_capacity(alloc, lines.min(room))?);
+        let faults = Items::from_vec(Vec::with_capacity(alloc, looked_up)?);
+        let mut names = Items::from_vec(Vec::with_capacity(alloc, looked_up.saturating_add(1))?);
+        names.push(unit)?;
         Ok(Made {
-            lines: Items::from_vec(Vec::with_capacity(alloc, expected.min(room))?),
-            faults: Items::new(alloc),
-            names: one_item(alloc, unit)?,
+            lines,
+            faults,
+            names,
             room,
             is_over: false,
         })

@@ -4,17 +4,16 @@ use Rattle.occ_forms.specs.declared.source.SourceLine.{SourceLine}
 use Rattle.occ_project.specs.declared.making.Made.{Made}
 use Rattle.occ_project.specs.Entries.{entries}
 use Rattle.occ_project.specs.Expansion.{unit_entries}
-use Rattle.occ_project.specs.inside.Making.{after}
-use Rattle.occ_project.proofs.Expansions.{expansion_is, shown, started}
-use Rattle.occ_project.proofs.expansion.expanded.Goals as goal
-use Rattle.occ_project.proofs.expansion.expanded.Goals.{in-Some+in_ok-file+in_ok-way+in_ok-add_file, in_default}
+use Rattle.occ_project.specs.inside.Making.{after, started}
+use Rattle.occ_project.proofs.Expansions.{expansion_is}
+use Rattle.occ_project.proofs.expansion.made.Goals as goal
+use Rattle.occ_project.proofs.expansion.made.Goals.{in-Some+in_ok-file+in_ok-way+in_ok-add_file, in_default}
 
 pub returns : goal.returns
 returns c =
     let reads = c.args.files.now.reads.now in
     let unit = c.args.unit in
     let made = c.match-found.made in
-    let shows : c.of.result ≡ shown made = c.of.ensures ∙ ap (λ (rs : List (List ℕ)). record { lines = made.lines; reads = rs; faults = made.faults }) c.in_ok-reads.ensures in
     let comes : made ≡ after (started 65535 unit) (unit_entries reads unit (option_copied c.open_lines-found.result)) =
     elim c.match-found.branch [
       | in-Some+in_ok-file+in_ok-way+in_ok-add_file w ↦
@@ -26,4 +25,4 @@ returns c =
       | in_default w ↦ w.made-is ∙ c.in_ok-made.ensures ∙ ap (λ (o : Option (Bor (List SourceLine))). after (started 65535 unit) (unit_entries reads unit (option_copied o))) (sym w.in_default.is)
     ]
     in
-    shows ∙ expansion_is reads unit (option_copied c.open_lines-found.result) made c.open_lines-found.ensures comes
+    expansion_is reads unit (option_copied c.open_lines-found.result) made c.open_lines-found.ensures comes
