@@ -1,12 +1,8 @@
 -- Each name at its first index, made in one walk.
 use Rattle.std.proofs.Common.{◌≡◌, ◌<◌, ℕ, length, arith, true, false, Bool, cond, not, ◌&&◌, List, [], ◌∷◌, ◌++◌, refl, sym, ap, ◌∙◌, append_assoc}
 use Rattle.std.specs.List.{filter}
-use Rattle.std.specs.Ordering.{is_eq}
 use Rattle.std.specs.Str.{bytes_eq}
-use Rattle.std.proofs.lemmas.Map.Text.{is_eq-slice_cmp}
 use Rattle.occ_base.specs.Firsts.{first_indices}
-use Rattle.std.specs.Cmp.Lexicographic.{slice_cmp}
-use Rattle.std.specs.Ordering.{nat_cmp}
 
 -- those of the names at their first indices that a test does not know
 abbrev pub unknown : (List ℕ → Bool) → List (List ℕ) → List (List ℕ)
@@ -45,22 +41,18 @@ none_known known e names = all (first_indices names) where
   all [] = refl
   all (n ∷ ns) = ap (λ (b : Bool). cond (not b) (n ∷ filter (λ name. not (known name)) ns) (filter (λ name. not (known name)) ns)) (e n) ∙ ap (λ (xs : List (List ℕ)). n ∷ xs) (all ns)
 
--- the order reports names apart as their bytes do
-by_bytes : (known then' : List ℕ → Bool) (name : List ℕ) → ((q : List ℕ) → then' q ≡ cond (is_eq (slice_cmp nat_cmp name q)) true (known q)) → (q : List ℕ) → then' q ≡ cond (bytes_eq name q) true (known q)
-by_bytes known then' name e q = e q ∙ ap (λ (b : Bool). cond b true (known q)) (is_eq-slice_cmp name q)
-
 -- the step of the walk
-pub comes_new : (known then' : List ℕ → Bool) (name : List ℕ) (rest names all found found' : List (List ℕ)) → ((q : List ℕ) → then' q ≡ cond (is_eq (slice_cmp nat_cmp name q)) true (known q))
+pub comes_new : (known then' : List ℕ → Bool) (name : List ℕ) (rest names all found found' : List (List ℕ)) → ((q : List ℕ) → then' q ≡ cond (bytes_eq name q) true (known q))
     → names ≡ name ∷ rest → known name ≡ false → found' ≡ found ++ name ∷ [] → found ++ unknown known names ≡ all → found' ++ unknown then' rest ≡ all
 comes_new known then' name rest names all found found' e n k f h =
     ap (λ (ns : List (List ℕ)). ns ++ unknown then' rest) f ∙ append_assoc found (name ∷ []) (unknown then' rest)
-    ∙ ap (λ (ns : List (List ℕ)). found ++ ns) (sym (ap (unknown known) n ∙ name_comes known then' name rest (by_bytes known then' name e) ∙ ap (λ (b : Bool). cond b (unknown then' rest) (name ∷ unknown then' rest)) k))
+    ∙ ap (λ (ns : List (List ℕ)). found ++ ns) (sym (ap (unknown known) n ∙ name_comes known then' name rest e ∙ ap (λ (b : Bool). cond b (unknown then' rest) (name ∷ unknown then' rest)) k))
     ∙ h
 
-pub comes_known : (known then' : List ℕ → Bool) (name : List ℕ) (rest names all found : List (List ℕ)) → ((q : List ℕ) → then' q ≡ cond (is_eq (slice_cmp nat_cmp name q)) true (known q))
+pub comes_known : (known then' : List ℕ → Bool) (name : List ℕ) (rest names all found : List (List ℕ)) → ((q : List ℕ) → then' q ≡ cond (bytes_eq name q) true (known q))
     → names ≡ name ∷ rest → known name ≡ true → found ++ unknown known names ≡ all → found ++ unknown then' rest ≡ all
 comes_known known then' name rest names all found e n k h =
-    ap (λ (ns : List (List ℕ)). found ++ ns) (sym (ap (unknown known) n ∙ name_comes known then' name rest (by_bytes known then' name e) ∙ ap (λ (b : Bool). cond b (unknown then' rest) (name ∷ unknown then' rest)) k))
+    ap (λ (ns : List (List ℕ)). found ++ ns) (sym (ap (unknown known) n ∙ name_comes known then' name rest e ∙ ap (λ (b : Bool). cond b (unknown then' rest) (name ∷ unknown then' rest)) k))
     ∙ h
 
 -- what the set answers: whether the name is new

@@ -5,7 +5,7 @@ ghost use Rattle.std.specs.Prelude.{IfOk, ◌≡◌};
 use super::file_name::FileName;
 use sqlite_items::Items;
 use std::alloc::{AllocError, Global};
-use std::collections::BTreeSet;
+use std::collections::HashSet;
 
 /// Each name once, at its first index.
 pub fn first_indices(alloc: Global, names: &[FileName]) -> Result<Items<FileName>, AllocError>
@@ -14,7 +14,7 @@ pub fn first_indices(alloc: Global, names: &[FileName]) -> Result<Items<FileName
     if names.len() < 2 {
         return Items::from_slice(alloc, names);
     }
-    let mut seen = BTreeSet::new(alloc);
+    let mut seen = HashSet::with_capacity(alloc, names.len())?;
     let mut found = Items::new(alloc);
     for name in names {
         if seen.insert(*name)? {

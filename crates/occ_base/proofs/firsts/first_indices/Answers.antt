@@ -1,8 +1,7 @@
 use Rattle.std.proofs.Common.{◌≡◌, ◌+◌, ℕ, true, false, List, ◌∷◌, ◌++◌, drop, refl, sym, ap, subst, ◌∙◌, IfOk, arith}
 use Rattle.std.proofs.lemmas.List.{drop_more}
-use Rattle.std.specs.BTreeSet.{contains}
-use Rattle.std.specs.Cmp.Lexicographic.{slice_cmp}
-use Rattle.std.specs.Ordering.{nat_cmp}
+use Rattle.std.specs.HashSet.{contains}
+use Rattle.std.specs.Str.{bytes_eq}
 use Rattle.occ_base.proofs.Indices.{comes_known, comes_new, few_once, is_known, is_new, none_known, unknown}
 use Rattle.occ_base.proofs.firsts.first_indices.Goals as goal
 use Rattle.occ_base.proofs.firsts.first_indices.Goals.{then-branch+in_ok-push, else-branch}
@@ -11,7 +10,7 @@ pub returns-then-names-lt2 : goal.returns-then-names-lt2
 returns-then-names-lt2 c = subst (λ (names : List (List ℕ)). IfOk c.from_slice.result (λ found. found ≡ names)) (few_once c.args.names.now (omega (arith, c.if-names-lt2.true))) c.from_slice.ensures
 
 pub loop-name-init : goal.loop-name-init
-loop-name-init c = ap (λ (ns : List (List ℕ)). ns ++ unknown (contains (slice_cmp nat_cmp) c.new-seen.result) c.args.names.now) c.new-found.ensures ∙ none_known (contains (slice_cmp nat_cmp) c.new-seen.result) (λ q. rw c.new-seen.ensures.empty refl) c.args.names.now
+loop-name-init c = ap (λ (ns : List (List ℕ)). ns ++ unknown (contains bytes_eq c.in_ok-seen.seen) c.args.names.now) c.new-found.ensures ∙ none_known (contains bytes_eq c.in_ok-seen.seen) (λ q. rw c.in_ok-seen.ensures.empty refl) c.args.names.now
 
 pub loop-name-preserved : goal.loop-name-preserved
 loop-name-preserved c =
@@ -19,8 +18,8 @@ loop-name-preserved c =
     let i = c.loop-name.name-index in
     let name = c.name-item.result in
     let d : drop i names ≡ name ∷ drop (i + 1) names = drop_more names i name (omega arith) ∙ ap (λ (n : List ℕ). n ∷ drop (i + 1) names) (sym c.name-item.is) in
-    let old = contains (slice_cmp nat_cmp) c.loop-name.seen in
-    let new = contains (slice_cmp nat_cmp) c.insert.new.self in
+    let old = contains bytes_eq c.loop-name.seen in
+    let new = contains bytes_eq c.insert.new.self in
     elim c.if-branch.branch [
       | then-branch+in_ok-push w ↦
           let k : old name ≡ false = is_new c.in_ok-insert.field-0 (old name) w.if-branch.true c.in_ok-insert.ensures.added in
