@@ -157,6 +157,32 @@ fn add_known_used(
     }
 }
 
+/// Adds what is known of the file at an index, which is new, where edges lead from it to these, and one to it from each that has a
+/// mark, if it then stands in no circle; and whether that is so. Else nothing is changed.
+fn add_known_between(
+    alloc: Global,
+    facts: &mut Vec<Shared<Facts>>,
+    links: &mut Linked,
+    at: usize,
+    known: &Shared<Facts>,
+    marks: &[bool],
+    targets: &[usize],
+) -> Result<bool, AllocError>
+{
+    insert_at(facts, at, known.share()?)?;
+    match links.add_between(alloc, at, marks, targets) {
+        Ok(true) => Ok(true),
+        Ok(false) => {
+            facts.remove(at);
+            Ok(false)
+        }
+        Err(refused) => {
+            facts.remove(at);
+            Err(refused)
+        }
+    }
+}
+
 /// Adds what is known of the file at an index, which is new and used by those that have a mark.
 fn add_known(
     alloc: Global,
@@ -176,10 +202,13 @@ fn add_known(
     let known = facts_of(alloc, project, at, name, &mut None)?;
     let targets = indices_of(alloc, project, 0, None, known.uses.get().as_slice())?;
     let shared = Shared::new(alloc, known)?;
-    if !targets.is_empty() {
-        return add_known_anew(alloc, project, facts, links, at, shared);
+    if targets.is_empty() {
+        return add_known_used(alloc, facts, links, at, shared, marks);
     }
-    add_known_used(alloc, facts, links, at, shared, marks)
+    if add_known_between(alloc, facts, links, at, &shared, marks, targets.as_slice())? {
+        return Ok(());
+    }
+    add_known_anew(alloc, project, facts, links, at, shared)
 }
 
 /// Puts a file into a project that is new to it and that no file reads, and those use that have a mark, with what is then known. What
