@@ -8,7 +8,7 @@ use Rattle.std.proofs.lemmas.List.Edits.{get_or-insert_at, length-insert}
 use Rattle.occ_project_graph.specs.Adding.{IsParted, raised, with_used_node}
 use Rattle.occ_project_graph.specs.Graph.{Graph, has_edge, is_among, reaches, targets}
 use Rattle.occ_project_graph.specs.inside.Leading.{later_row, later_rows}
-use Rattle.occ_project_graph.specs.inside.Linking.{AreLedRows, IsLinked, marked, with_rows}
+use Rattle.occ_project_graph.specs.inside.Linking.{AreLedRows, IsLed, IsLinked, marked, with_rows}
 use Rattle.occ_project_graph.specs.inside.Numbering.{graph_by, times_in}
 use Rattle.occ_project_graph.proofs.Added.{all_rows, not_both}
 use Rattle.occ_project_graph.proofs.Elsewhere.{led_linked, led_view}
@@ -45,17 +45,17 @@ pub record IsAfter (edges after : Graph) (users : List ℕ) : Type 0 where
   pub long : length after ≡ length edges + 1
   pub others : (q : ℕ) → q < length edges → is_among users q ≡ false → targets after q ≡ targets edges q
 
-pub put_long : (edges pushed put : Graph) (users : List ℕ) (found : List (List ℕ)) → pushed ≡ edges ++ [] ∷ [] → put ≡ with_rows pushed users found → length put ≡ length edges + 1
-put_long edges pushed put users found a b = ap (length {A = List ℕ}) b ∙ rows_long pushed users found ∙ ap (length {A = List ℕ}) a ∙ last_long edges []
+pub led_long : (indices : List ℕ) (at n : ℕ) (users : List ℕ) (edges put : Graph) → IsLed indices at n users edges put → length put ≡ length edges + 1
+led_long indices at n users edges put led = ap (length {A = List ℕ}) led.is ∙ rows_long (edges ++ [] ∷ []) users led.found ∙ last_long edges []
 
-pub is_after : (edges pushed put after : Graph) (users : List ℕ) (found : List (List ℕ)) (n : ℕ) (row : List ℕ) → n ≡ length edges → pushed ≡ edges ++ [] ∷ [] → put ≡ with_rows pushed users found → after ≡ slice_set put n row → IsAfter edges after users
-is_after edges pushed put after users found n row last a b e = record {
-  long = ap (length {A = List ℕ}) e ∙ set_long put n row ∙ put_long edges pushed put users found a b;
+pub is_after : (indices : List ℕ) (at : ℕ) (users : List ℕ) (edges put after : Graph) (n : ℕ) (row : List ℕ) → n ≡ length edges → IsLed indices at n users edges put → after ≡ slice_set put n row → IsAfter edges after users
+is_after indices at users edges put after n row last led e = record {
+  long = ap (length {A = List ℕ}) e ∙ set_long put n row ∙ led_long indices at n users edges put led;
   others = λ q lt off.
       ap (λ (g : Graph). get_or g q []) e
       ∙ set_apart put n q row (λ same. absurd (omega (arith, same, lt, last)))
-      ∙ ap (λ (g : Graph). get_or g q []) b ∙ rows_off pushed users found q off
-      ∙ ap (λ (g : Graph). get_or g q []) a ∙ get_or_append_left edges ([] ∷ []) [] q lt;
+      ∙ ap (λ (g : Graph). get_or g q []) led.is ∙ rows_off (edges ++ [] ∷ []) users led.found q off
+      ∙ get_or_append_left edges ([] ∷ []) [] q lt;
 }
 
 here_among : (m : ℕ) (nodes : List ℕ) → is_among (m ∷ nodes) m ≡ true

@@ -1,6 +1,6 @@
-//! The rows of a graph where one node more comes to an index, to which edges lead from others and from which none leads.
+//! The rows of a graph where one node more comes to an index, to which edges lead from others.
 ghost use Rattle.occ_project_graph.specs.inside.Linking.{AreLed, AreLedRests, IsBetween, IsLed, marked, rests_kept};
-ghost use Rattle.occ_project_graph.specs.Graph.{Graph, is_among, targets as spec_targets};
+ghost use Rattle.occ_project_graph.specs.Graph.{Graph, is_among, reaches, targets as spec_targets};
 ghost use Rattle.std.specs.Prelude.{◌≡◌, ◌<◌, ◌+◌, ◌++◌, ◌∷◌, [], ℕ, IfOk, OnErr, OnOk, cond, false, get_or, length, map, true};
 
 use super::adding::{put_rows, source_row};
@@ -98,8 +98,41 @@ fn take_back(rows: &mut Vec<Items<usize>>, nodes: &[usize], before: Items<Items<
     let _last = rows.pop();
 }
 
-/// The node of the next number, from which edges lead to these, comes behind the others, and is added to the rows of those that use it,
-/// if it reaches itself by no way then; and whether that is so. The same of what is kept of what nodes rest on. Else nothing is changed.
+/// Whether one of these nodes is the one that comes to an index, or one that uses it, which has a mark. Then there is a circle.
+pub fn leads_back(marks: &[bool], at: usize, targets: &[usize]) -> bool {
+    for target in targets {
+        let before = if *target > at { *target - 1 } else { *target };
+        if *target == at || is_known(marks, before) {
+            return true;
+        }
+    }
+    false
+}
+
+/// Whether a node reaches itself by no way. If so, it is added to the rows of what its users rest on, if something is kept of that.
+fn lead_free(
+    alloc: Global,
+    indices: &[usize],
+    edges: &[Items<usize>],
+    rests: &mut Option<Vec<Items<usize>>>,
+    at: usize,
+    number: usize,
+    users: &[usize],
+) -> Result<bool, AllocError>
+    requires { number < length edges.now }
+    ensures done { IfOk result (λ done. done ≡ true → AreLedRests indices.now at number users.now rests.old rests.new × (reaches edges.now number number ≡ false)) }
+    ensures other { IfOk result (λ done. done ≡ false → (g : Graph) → rests_kept g rests.new ≡ rests_kept g rests.old) }
+    ensures err { OnErr result ((g : Graph) → rests_kept g rests.new ≡ rests_kept g rests.old) }
+{
+    if is_reached(alloc, edges, number)? {
+        return Ok(false);
+    }
+    lead_rests(alloc, indices, rests, at, number, users)?;
+    Ok(true)
+}
+
+/// The node of the next number comes behind the others, if it then reaches itself by no way. Edges lead from it to these, and to it from
+/// those users. What is kept of what nodes rest on gets the same, but no row of the node yet. Else nothing is changed.
 pub fn lead_between(
     alloc: Global,
     indices: &[usize],
@@ -114,28 +147,21 @@ pub fn lead_between(
     ensures err { OnErr result (edges.new.items ≡ edges.old.items × ((g : Graph) → rests_kept g rests.new ≡ rests_kept g rests.old)) }
 {
     let number = edges.len();
-    let found = led_rows(alloc, indices, edges.as_slice(), at, number, users)?;
     let before = rows_of(alloc, edges.as_slice(), users)?;
     let row = Items::from_slice(alloc, led)?;
-    edges.push(Items::new(alloc))?;
-    put_rows(edges, users, found);
+    lead_rows(alloc, indices, edges, at, number, users)?;
     let _none = replaced(edges, number, row);
-    match is_reached(alloc, edges.as_slice(), number) {
-        Ok(false) => {}
-        Ok(true) => {
+    match lead_free(alloc, indices, edges.as_slice(), rests, at, number, users) {
+        Ok(true) => Ok(true),
+        Ok(false) => {
             take_back(edges, users, before);
-            return Ok(false);
+            Ok(false)
         }
         Err(refused) => {
             take_back(edges, users, before);
-            return Err(refused);
+            Err(refused)
         }
     }
-    if let Err(refused) = lead_rests(alloc, indices, rests, at, number, users) {
-        take_back(edges, users, before);
-        return Err(refused);
-    }
-    Ok(true)
 }
 
 /// Adds a number, if so.

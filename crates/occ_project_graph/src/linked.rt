@@ -8,7 +8,7 @@ ghost use Rattle.std.specs.Prelude.{◌≡◌, ◌<◌, ◌≤◌, ◌++◌, ◌
 
 use super::adding::{lead, lead_no_more, put_found, put_rows};
 use super::circles::find_rests;
-use super::joining::{lead_between, lead_rests, led_rows, marked_numbers};
+use super::joining::{lead_between, lead_rests, leads_back, led_rows, marked_numbers};
 use super::leading::{both, is_reached, later_edges, numbers_of, replaced, rows_later};
 use super::nodes::Nodes;
 use super::numbering::{first_numbers, insert_node, numbers_then, push_within, with_room};
@@ -319,8 +319,8 @@ impl Linked {
         Ok(())
     }
 
-    /// One node more comes to an index, from which edges lead to these, and to which one leads from each node that has a mark, if it
-    /// then stands in no circle; and whether that is so. Else nothing is changed.
+    /// One node more comes to an index, if it is found that it then stands in no circle; and whether that is so. Edges lead from it to
+    /// these, and one to it from each node that has a mark. Else nothing is changed, nor where memory is refused.
     pub fn add_between(
         &mut self,
         alloc: Global,
@@ -335,6 +335,9 @@ impl Linked {
         ensures other { IfOk result (λ done. done ≡ false → self.new ≡ self.old) }
         ensures err { OnErr result (self.new ≡ self.old) }
     {
+        if leads_back(marks, at, targets) {
+            return Ok(false);
+        }
         let number = self.numbers.len();
         let mut numbers = with_room(alloc, self.numbers.as_slice())?;
         let mut indices = with_room(alloc, self.indices.as_slice())?;

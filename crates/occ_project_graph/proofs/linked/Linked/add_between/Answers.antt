@@ -1,4 +1,4 @@
-use Rattle.std.proofs.Common.{rules, ◌≡◌, ◌∙◌, ◌<◌, ◌≤◌, ◌++◌, ◌∷◌, ℕ, Bool, List, [], ap, arith, false, get_or, length, map, subst, sym, true}
+use Rattle.std.proofs.Common.{rules, ◌≡◌, ◌∙◌, ◌≤◌, ◌++◌, ◌∷◌, ℕ, Bool, List, [], ap, arith, false, get_or, length, map, subst, sym, true}
 use Rattle.std.specs.Prelude.{slice_set}
 use Rattle.std.specs.List.{insert}
 use Rattle.occ_project_graph.specs.Adding.{IsParted, raised}
