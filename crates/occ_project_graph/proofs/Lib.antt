@@ -15,3 +15,4 @@ pub mod Led
 pub mod Rising
 pub mod Raising
 pub mod Elsewhere
+pub mod Between

@@ -43,7 +43,7 @@ reaches g u v = reaches_below g (length g) u v
 abbrev pub is_circular : Graph → ℕ → ℕ → Bool
 is_circular g u v = (u == v) || reaches g v u
 
--- a node rests on those to which edges lead from it that stand in no circle
+-- a node rests on the targets of its edges that stand in no circle
 abbrev pub rests : Graph → ℕ → List ℕ
 rests g u = filter (λ v. not (is_circular g u v)) (targets g u)
 

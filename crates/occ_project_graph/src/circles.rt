@@ -14,9 +14,9 @@ use std::alloc::{AllocError, Global};
 /// Components of a graph, as far as they are found: nodes that reach one another.
 #[derive(Drop)]
 pub struct Components {
-    /// Of each node the number of its component, which is the index of one of its nodes and 1; 0, if it is not found yet.
+    /// Of each node the number of its component; 0, if it is not found yet. The number is the index of one of its nodes and 1.
     pub found: Seen,
-    /// Of each node the number of the last component that was found to be reached from it; 0, if none was.
+    /// Of each node the number of the component from which a search against edges last came to it; 0, if none did.
     pub back: Seen,
 }
 
@@ -66,8 +66,8 @@ fn add_component_of(
     Ok(())
 }
 
-/// Finds components from the last node of an order to the first. In that in which a walk leaves the nodes each is found by going
-/// along its own edges alone.
+/// Finds the components of the nodes of an order, the last node first. In the order in which a walk leaves them each search stays
+/// in its component.
 fn in_this_order(
     alloc: Global,
     graph: &[Items<usize>],
@@ -106,7 +106,7 @@ fn add_all(
     Ok(())
 }
 
-/// Of each node the number of its strong component: two have one number if they are one, or each reaches the other.
+/// Of each node the number of its strong component: two have one number exactly if they are one, or each reaches the other.
 pub fn find_components(
     alloc: Global,
     graph: &[Items<usize>],
@@ -199,9 +199,8 @@ fn all_rests_of(
     Ok(all)
 }
 
-/// For each node of a graph those that it rests on: those to which edges lead from it that stand in no circle; nothing, only if
-/// these are all. An edge stands in a circle if it leads to a node of the component that it comes from. The graph is given turned
-/// round, too.
+/// For each node of a graph those that it rests on; nothing, only if these are all its targets. An edge stands in a circle if it leads
+/// to a node of the component that it comes from. The graph is given turned round, too.
 pub fn find_rests(
     alloc: Global,
     graph: &[Items<usize>],

@@ -8,10 +8,10 @@ ghost use Rattle.std.specs.Prelude.{◌≡◌, ◌<◌, ◌≤◌, ◌++◌, ◌
 
 use super::adding::{lead, lead_no_more, put_found, put_rows};
 use super::circles::find_rests;
-use super::joining::{lead_rests, led_rows, marked_numbers};
+use super::joining::{lead_between, lead_rests, leads_back, led_rows, marked_numbers};
 use super::leading::{both, is_reached, later_edges, numbers_of, replaced, rows_later};
 use super::nodes::Nodes;
-use super::numbering::{first_numbers, insert_node, numbers_then, push_within};
+use super::numbering::{first_numbers, insert_node, numbers_then, push_within, with_room};
 use super::resting::{add_rests, is_one};
 use super::search::{number_at, targets as row};
 use super::sources::find_sources;
@@ -317,6 +317,62 @@ impl Linked {
         put_rows(&mut self.edges, users.as_slice(), found);
         push_within(&mut self.sources, users);
         Ok(())
+    }
+
+    /// One node more comes to an index, if it is found that it then stands in no circle; and whether that is so. Edges lead from it to
+    /// these, and one to it from each node that has a mark. Else nothing is changed, nor where memory is refused.
+    pub fn add_between(
+        &mut self,
+        alloc: Global,
+        at: usize,
+        marks: &[bool],
+        targets: &[usize],
+    ) -> Result<bool, AllocError>
+        requires index { at ≤ length self.old }
+        requires parted { (u : ℕ) → get_or marks.now u false ≡ true → IsParted at (spec_targets self.old u) }
+        requires within { (v : ℕ) → is_among targets.now v ≡ true → v ≤ length self.old }
+        ensures done { IfOk result (λ done. done ≡ true → self.new ≡ slice_set (with_used_node self.old at marks.now) at targets.now) }
+        ensures other { IfOk result (λ done. done ≡ false → self.new ≡ self.old) }
+        ensures err { OnErr result (self.new ≡ self.old) }
+    {
+        if leads_back(marks, at, targets) {
+            return Ok(false);
+        }
+        let number = self.numbers.len();
+        let mut numbers = with_room(alloc, self.numbers.as_slice())?;
+        let mut indices = with_room(alloc, self.indices.as_slice())?;
+        insert_node(&mut numbers, &mut indices, at);
+        let users = marked_numbers(alloc, self.numbers.as_slice(), marks)?;
+        let led = numbers_of(alloc, numbers.as_slice(), targets)?;
+        let found = rows_later(
+            alloc,
+            indices.as_slice(),
+            self.sources.as_slice(),
+            at,
+            number,
+            led.as_slice(),
+            led.as_slice(),
+        )?;
+        let rest = Items::from_slice(alloc, led.as_slice())?;
+        self.sources.reserve(1)?;
+        let done = lead_between(
+            alloc,
+            self.indices.as_slice(),
+            &mut self.edges,
+            &mut self.rests,
+            at,
+            users.as_slice(),
+            led.as_slice(),
+        )?;
+        if !done {
+            return Ok(false);
+        }
+        put_rest(&mut self.rests, number, rest);
+        push_within(&mut self.sources, users);
+        put_rows(&mut self.sources, led.as_slice(), found);
+        self.numbers = numbers;
+        self.indices = indices;
+        Ok(true)
     }
 
     /// Edges lead from a node to these from then on, if it stands in no circle, neither before nor then; and whether that is so. Else

@@ -97,6 +97,17 @@ pub fn push_within<T: Drop>(items: &mut Vec<T>, item: T)
     let _ = items.push(item);
 }
 
+/// The same numbers, with room for one more.
+pub fn with_room(alloc: Global, numbers: &[usize]) -> Result<Vec<usize>, AllocError>
+    ensures items { IfOk result (λ copy. copy.items ≡ numbers.now) }
+    ensures room { IfOk result (λ copy. vec_len copy < vec_capacity copy) }
+{
+    let mut copy = Vec::with_capacity(alloc, numbers.len().saturating_add(1))?;
+    copy.extend_from_slice(numbers)?;
+    copy.reserve(1)?;
+    Ok(copy)
+}
+
 /// The node of the next number comes to an index.
 pub fn insert_node(numbers: &mut Vec<usize>, indices: &mut Vec<usize>, at: usize)
     requires at { at ≤ vec_len numbers.old }

@@ -38,8 +38,8 @@ fn next_new(seen: &[bool], nodes: &[usize], from: usize) -> usize {
     nodes.len()
 }
 
-/// The walk goes along the next edge of the node that it is at to one that it has not come to, or leaves it. It says whether it was
-/// at one.
+/// The walk goes along an edge of the node that it is at to the next one that it has not come to, or leaves it. It says whether it
+/// was at one.
 fn step(graph: &[Items<usize>], walk: &mut Walk) -> Result<bool, AllocError> {
     let Some((node, gone)) = walk.path.pop() else {
         return Ok(false);

@@ -1,5 +1,4 @@
-//! What nodes rest on after a node was inserted. Where every node has a rank, that is its targets and is not stored
-//! again.
+//! What nodes rest on after a node was inserted. Where no edge stands in a circle that is their targets, which are not kept again.
 ghost use Rattle.occ_project_graph.specs.Graph.{is_among};
 ghost use Rattle.occ_project_graph.specs.inside.Linking.{others as spec_others, rests_kept};
 ghost use Rattle.std.specs.Prelude.{◌≡◌, ◌++◌, ◌∷◌, [], IfOk, OnErr, OnOk};

@@ -11,7 +11,7 @@ use std::alloc::{AllocError, Global};
 pub struct Seen {
     /// The mark of each node.
     pub marks: Items<usize>,
-    /// The nodes that it came to, in that order.
+    /// The nodes that the last search came to, in that order.
     pub queue: Items<usize>,
 }
 
@@ -105,8 +105,8 @@ fn go_on(
     Ok(())
 }
 
-/// Gives a mark, which is the node's index and 1, to the nodes that edges lead to from it through such as have a mark among others.
-/// No node may have it before.
+/// Gives a mark, which is the node's index and 1, to nodes that it reaches and that have a mark among others: to all that it reaches
+/// through such. No node may have it before.
 pub fn search(
     alloc: Global,
     graph: &[Items<usize>],

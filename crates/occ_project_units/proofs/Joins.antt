@@ -1,6 +1,6 @@
 -- A file that is new to a project, that others use and that none reads.
-use Rattle.std.proofs.Common.{◌≡◌, ◌∙◌, ◌+◌, ◌<◌, ◌≤◌, ◌++◌, ◌||◌, ℕ, suc, Bool, true, false, cond, not, List, [], ◌∷◌, length, map, get_or, Option, Some, None, refl, sym, ap, subst, inl, inr, arith}
-use Rattle.std.specs.Prelude.{nat_lt}
+use Rattle.std.proofs.Common.{◌≡◌, ◌∙◌, ◌+◌, ◌<◌, ◌≤◌, ◌++◌, ◌||◌, ℕ, zero, suc, Bool, true, false, cond, not, List, [], ◌∷◌, length, map, get_or, Option, Some, None, refl, sym, ap, subst, inl, inr, arith}
+use Rattle.std.specs.Prelude.{nat_lt, slice_set}
 use Rattle.std.specs.List.{AllByRecursion, cons_option, filter, flat_map, insert, slice_get}
 use Rattle.std.specs.List.Sorted.{IsStrictlySortedBy}
 use Rattle.std.specs.Option.{option_map}
@@ -198,6 +198,21 @@ marks_are : (files xs : List Read) (name : List ℕ) → map (λ (f : Facts). is
 marks_are files [] name = refl
 marks_are files (x ∷ xs) name = ap (λ (ms : List Bool). is_among (used_units files x.name) name ∷ ms) (marks_are files xs name)
 
+-- the row of the new node is put in its place
+set_inserted : (rows : Graph) (at : ℕ) (old new : List ℕ) → at ≤ length rows → slice_set (insert rows at old) at new ≡ insert rows at new
+set_inserted rows zero old new h = refl
+set_inserted [] (suc at) old new h = absurd (omega (arith, h))
+set_inserted (row ∷ rows) (suc at) old new h = ap (λ (g : Graph). row ∷ g) (set_inserted rows at old new (omega (arith, h)))
+
+rows_with_long : (at : ℕ) (g : Graph) (marks : List Bool) → length (rows_with at g marks) ≡ length g
+rows_with_long at [] marks = refl
+rows_with_long at (ws ∷ g) [] = ap suc (rows_with_long at g [])
+rows_with_long at (ws ∷ g) (m ∷ marks) = ap suc (rows_with_long at g marks)
+
+-- where edges lead from it to none it is as it was put
+pub none_set : (g : Graph) (at : ℕ) (marks : List Bool) → at ≤ length g → slice_set (with_used_node g at marks) at [] ≡ with_used_node g at marks
+none_set g at marks h = let long = rows_with_long at g marks in set_inserted (rows_with at g marks) at [] [] (omega (arith, h, long))
+
 module _ (files : List Read) (file : Read) (at : ℕ) (new : IsUnread files file.name at) where
   row_is : (p : ℕ) (x : Read) → slice_get files p ≡ Some x → p < length files
       → indices_of (put files file) (used_units (put files file) x.name) ≡ cond (is_among (used_units files x.name) file.name) (row_with at (indices_of files (used_units files x.name))) (map (raised at) (indices_of files (used_units files x.name)))
@@ -212,12 +227,15 @@ module _ (files : List Read) (file : Read) (at : ℕ) (new : IsUnread files file
   abbrev pub marks : List Bool
   marks = map (λ (x : Read). is_among (used_units files x.name) file.name) files
 
-  graph_with : indices_of (put files file) (used_units (put files file) file.name) ≡ [] → with_used_node (graph_of files) at marks ≡ graph_of (put files file)
-  graph_with none =
-      ap (λ (rows : Graph). insert rows at []) (sym (rows_same at files (λ x. indices_of files (used_units files x.name)) (λ x. indices_of (put files file) (used_units (put files file) x.name)) (λ x. is_among (used_units files x.name) file.name) row_is))
-      ∙ ap (insert (map (λ (x : Read). indices_of (put files file) (used_units (put files file) x.name)) files) at) (sym none)
+  graph_with : slice_set (with_used_node (graph_of files) at marks) at (indices_of (put files file) (used_units (put files file) file.name)) ≡ graph_of (put files file)
+  graph_with =
+      set_inserted (rows_with at (graph_of files) marks) at [] (indices_of (put files file) (used_units (put files file) file.name)) fits
+      ∙ ap (λ (rows : Graph). insert rows at (indices_of (put files file) (used_units (put files file) file.name))) (sym (rows_same at files (λ x. indices_of files (used_units files x.name)) (λ x. indices_of (put files file) (used_units (put files file) x.name)) (λ x. is_among (used_units files x.name) file.name) row_is))
       ∙ sym (insert_map (λ (x : Read). indices_of (put files file) (used_units (put files file) x.name)) files at file)
       ∙ ap (map (λ (x : Read). indices_of (put files file) (used_units (put files file) x.name))) (gap_put files file at new.gap)
+    where
+      fits : at ≤ length (rows_with at (graph_of files) marks)
+      fits = let within = new.gap.within in let rows = graph_long files in let long = rows_with_long at (graph_of files) marks in omega (arith, within, rows, long)
 
   parted_at : (u : ℕ) → IsParted at (targets (graph_of files) u)
   parted_at u = elim (cases_lt u (length files)) [
@@ -240,8 +258,9 @@ module _ (files : List Read) (file : Read) (at : ℕ) (new : IsUnread files file
         links_fit = omega (arith, within, rows);
         facts_are = ap (λ (n : List ℕ). insert (all_facts files) at (facts_of (put files file) n)) name ∙ all_known_then files file at new.gap new.unread;
         parted = λ u m. parted_at u;
-        links_are = λ none.
-            ap (λ (n : List ℕ). with_used_node (graph_of files) at (map (λ (f : Facts). is_among f.uses n) (all_facts files))) name
-            ∙ ap (with_used_node (graph_of files) at) (marks_are files files file.name)
-            ∙ graph_with (ap (λ (n : List ℕ). indices_of (put files file) (used_units (put files file) n)) (sym name) ∙ none);
+        long = omega (arith, long, rows);
+        links_are =
+            ap (λ (n : List ℕ). slice_set (with_used_node (graph_of files) at (map (λ (f : Facts). is_among f.uses n) (all_facts files))) at (indices_of (put files file) (used_units (put files file) n))) name
+            ∙ ap (λ (ms : List Bool). slice_set (with_used_node (graph_of files) at ms) at (indices_of (put files file) (used_units (put files file) file.name))) (marks_are files files file.name)
+            ∙ graph_with;
       }

@@ -1,7 +1,7 @@
-//! Puts in a file that is new, that others may use and that none reads. What is known of the others stays; and if it uses none
-//! that is there, so does what they rest on.
+//! Puts in a file that is new, that others may use and that none reads. What is known of the others stays; and if it is in no
+//! circle, so does what they rest on.
 ghost use Rattle.occ_project_graph.specs.Adding.{IsParted, with_used_node};
-ghost use Rattle.occ_project_graph.specs.Graph.{is_among as spec_is_among, targets};
+ghost use Rattle.occ_project_graph.specs.Graph.{is_among as spec_is_among, targets as spec_targets};
 ghost use Rattle.occ_project_units.specs.Along.{name_at};
 ghost use Rattle.occ_project.specs.Entries.{is_among};
 ghost use Rattle.occ_project_units.specs.Indices.{graph_of};
@@ -142,7 +142,7 @@ fn add_known_used(
 ) -> Result<(), AllocError>
     requires facts_fit { at ≤ length facts.old.items }
     requires links_fit { at ≤ length links.old }
-    requires parted { (u : ℕ) → get_or marks.now u false ≡ true → IsParted at (targets links.old u) }
+    requires parted { (u : ℕ) → get_or marks.now u false ≡ true → IsParted at (spec_targets links.old u) }
     ensures facts { OnOk result (facts.new.items ≡ insert facts.old.items at known) }
     ensures links { OnOk result (links.new ≡ with_used_node links.old at marks.now) }
     ensures err { OnErr result (facts.new.items ≡ facts.old.items × links.new ≡ links.old) }
@@ -150,6 +150,40 @@ fn add_known_used(
     insert_at(facts, at, known)?;
     match links.add_used(alloc, at, marks) {
         Ok(()) => Ok(()),
+        Err(refused) => {
+            facts.remove(at);
+            Err(refused)
+        }
+    }
+}
+
+/// Adds what is known of the file at an index, which is new, where edges lead from it to these, and one to it from each that has a
+/// mark, if it then stands in no circle; and whether that is so. Else nothing is changed.
+fn add_known_between(
+    alloc: Global,
+    facts: &mut Vec<Shared<Facts>>,
+    links: &mut Linked,
+    at: usize,
+    known: &Shared<Facts>,
+    marks: &[bool],
+    targets: &[usize],
+) -> Result<bool, AllocError>
+    requires facts_fit { at ≤ length facts.old.items }
+    requires links_fit { at ≤ length links.old }
+    requires parted { (u : ℕ) → get_or marks.now u false ≡ true → IsParted at (spec_targets links.old u) }
+    requires within { (v : ℕ) → spec_is_among targets.now v ≡ true → v ≤ length links.old }
+    ensures facts { IfOk result (λ done. done ≡ true → facts.new.items ≡ insert facts.old.items at known.now) }
+    ensures links { IfOk result (λ done. done ≡ true → links.new ≡ slice_set (with_used_node links.old at marks.now) at targets.now) }
+    ensures other { IfOk result (λ done. done ≡ false → facts.new.items ≡ facts.old.items × links.new ≡ links.old) }
+    ensures err { OnErr result (facts.new.items ≡ facts.old.items × links.new ≡ links.old) }
+{
+    insert_at(facts, at, known.share()?)?;
+    match links.add_between(alloc, at, marks, targets) {
+        Ok(true) => Ok(true),
+        Ok(false) => {
+            facts.remove(at);
+            Ok(false)
+        }
         Err(refused) => {
             facts.remove(at);
             Err(refused)
@@ -176,10 +210,13 @@ fn add_known(
     let known = facts_of(alloc, project, at, name, &mut None)?;
     let targets = indices_of(alloc, project, 0, None, known.uses.get().as_slice())?;
     let shared = Shared::new(alloc, known)?;
-    if !targets.is_empty() {
-        return add_known_anew(alloc, project, facts, links, at, shared);
+    if targets.is_empty() {
+        return add_known_used(alloc, facts, links, at, shared, marks);
     }
-    add_known_used(alloc, facts, links, at, shared, marks)
+    if add_known_between(alloc, facts, links, at, &shared, marks, targets.as_slice())? {
+        return Ok(());
+    }
+    add_known_anew(alloc, project, facts, links, at, shared)
 }
 
 /// Puts a file into a project that is new to it and that no file reads, and those use that have a mark, with what is then known. What

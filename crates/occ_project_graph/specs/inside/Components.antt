@@ -21,7 +21,7 @@ pub record IsTurned (g turned : Graph) : Type 0 where
   pub len : length turned ≡ length g
   pub sources_are : (v : ℕ) → v < length g → get_or turned v [] ≡ sources g v
 
--- Whole components have numbers over 0. A number or a mark is given only where the node that it is of has a number, too.
+-- Whole components have numbers over 0. A number or a mark r + 1 is given only where the node r has a number.
 pub record AreComponents (g : Graph) (numbers marks : List ℕ) : Type 0 where
   pub len : length numbers ≡ length g
   pub marks_len : length marks ≡ length g

@@ -2,7 +2,7 @@
 use Rattle.std.specs.Global.{Global}
 use Rattle.std.specs.Prelude.{◌≡◌, ◌<◌, ◌+◌, ◌-◌, ◌++◌, ◌==◌, ℕ, Bool, false, true, List, [], ◌∷◌, None, Option, Some, Vec, cond, get_or, length, map, nat_lt, not, slice_set}
 use Rattle.std.specs.List.{filter}
-use Rattle.occ_project_graph.specs.Graph.{Graph, all_rests}
+use Rattle.occ_project_graph.specs.Graph.{Graph, all_rests, reaches}
 use Rattle.occ_project_graph.specs.Sources.{once_each, sources}
 use Rattle.occ_project_graph.specs.inside.Numbering.{AreSourceRows, IsFrontBefore, IsNumbered, IsOver, IsSourceRow, graph_by, index_at}
 
@@ -99,3 +99,12 @@ AreLedRests indices at number nodes None None = Unit {0}
 AreLedRests indices at number nodes None (Some rows) = ⊥
 AreLedRests indices at number nodes (Some before) None = ⊥
 AreLedRests indices at number nodes (Some before) (Some rows) = IsLed indices at number nodes before.items rows.items
+
+-- The new node is put, from which edges lead to these, and to which edges lead from those users. It reaches itself by no way. The same
+-- of what is kept of what nodes rest on, but for the row of the new one.
+pub record IsBetween (indices : List ℕ) (at : ℕ) (users led : List ℕ) (before after : Graph) (rests next : Option (Vec (List ℕ) Global)) : Type 0 where
+  pub joined : Graph
+  pub are : IsLed indices at (length before) users before joined
+  pub is : after ≡ slice_set joined (length before) led
+  pub rests_are : AreLedRests indices at (length before) users rests next
+  pub none : reaches after (length before) (length before) ≡ false

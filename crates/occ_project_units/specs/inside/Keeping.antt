@@ -142,6 +142,7 @@ pub record IsJoining (facts : List Facts) (links : Graph) (later : List Read) (a
   pub within : at < length later
   pub facts_fit : at ≤ length facts
   pub links_fit : at ≤ length links
+  pub long : length later ≡ length links + 1
   pub facts_are : insert facts at (facts_of later (name_at later at)) ≡ all_facts later
   pub parted : (u : ℕ) → get_or (map (λ f. is_among f.uses (name_at later at)) facts) u false ≡ true → IsParted at (targets links u)
-  pub links_are : indices_of later (used_units later (name_at later at)) ≡ [] → with_used_node links at (map (λ f. is_among f.uses (name_at later at)) facts) ≡ graph_of later
+  pub links_are : slice_set (with_used_node links at (map (λ f. is_among f.uses (name_at later at)) facts)) at (indices_of later (used_units later (name_at later at))) ≡ graph_of later
