@@ -1,6 +1,16 @@
 -- Uses of parts.
+use Rattle.std.specs.Prelude.{Bool, true, false}
+use Rattle.occ_types.specs.declared.interface.UseKind.{UseKind}
+use Rattle.occ_types.specs.declared.interface.UseKind.TheVariants as kind
 use Rattle.occ_project.specs.declared.expanded.Location.{Location}
 use Rattle.occ_usage_values.specs.declared.uses.Use.{Use}
+
+-- whether it is a write
+abbrev pub is_writing : UseKind → Bool
+is_writing kind.Read = false
+is_writing kind.Write = true
+is_writing kind.Input = false
+is_writing kind.Output = false
 
 -- the same use, at another line
 abbrev pub at_line : Use → Location → Use
