@@ -6,12 +6,12 @@ use Rattle.std.proofs.lemmas.List.Folds.{list_any-append}
 use Rattle.occ_project.specs.declared.expanded.Location.{Location}
 use Rattle.occ_usage_parts.specs.declared.place.SelectedPart.{SelectedPart}
 use Rattle.occ_usage_values.specs.Calls.{called, called_all, named_by, of_actual}
-use Rattle.occ_usage_values.specs.Uses.{at_line, is_writing}
+use Rattle.occ_usage_values.specs.Uses.{at_line, is_write}
 use Rattle.occ_usage_values.specs.declared.uses.Use.{Use}
 use Rattle.occ_usage_values.proofs.Differing.{left_false, right_false}
 
 abbrev writes : Use → Bool
-writes u = is_writing u.kind
+writes u = is_write u.kind
 
 actual_writes : (line : Location) (u : Use) → writes u ≡ false → (place : Option SelectedPart) → list_any writes (of_actual line u place) ≡ false
 actual_writes line u h None = refl
@@ -23,8 +23,8 @@ called_writes line callee places u h = by (nat_lt u.part.root callee) where
   by true = ap (λ (b : Bool). b || false) h
   by false = actual_writes line u h (named_by (slice_get places (u.part.root - callee)))
 
-pub writes_none : (line : Location) (callee : ℕ) (places : List (Option SelectedPart)) (body : List Use) → list_any (λ (u : Use). is_writing u.kind) body ≡ false
-    → list_any (λ (u : Use). is_writing u.kind) (called_all line callee places body) ≡ false
+pub writes_none : (line : Location) (callee : ℕ) (places : List (Option SelectedPart)) (body : List Use) → list_any (λ (u : Use). is_write u.kind) body ≡ false
+    → list_any (λ (u : Use). is_write u.kind) (called_all line callee places body) ≡ false
 writes_none line callee places [] h = refl
 writes_none line callee places (u ∷ us) h =
     list_any-append writes (called line callee places u) (called_all line callee places us)

@@ -6,11 +6,11 @@ use Rattle.occ_project.specs.declared.expanded.Location.{Location}
 use Rattle.occ_usage_values.specs.declared.uses.Use.{Use}
 
 -- whether it is a write
-abbrev pub is_writing : UseKind → Bool
-is_writing kind.Read = false
-is_writing kind.Write = true
-is_writing kind.Input = false
-is_writing kind.Output = false
+abbrev pub is_write : UseKind → Bool
+is_write kind.Read = false
+is_write kind.Write = true
+is_write kind.Input = false
+is_write kind.Output = false
 
 -- the same use, at another line
 abbrev pub at_line : Use → Location → Use

@@ -1,19 +1,16 @@
-//! A call that is evaluated at a line. What it uses is made when it is asked for: a call in the actuals of calls in calls stands
-//! below each of these, and would be gone through for each.
-ghost use Rattle.std.specs.Prelude.{◌≡◌, false, IfOk, IsFalse, List};
+//! A call that is evaluated at a line. What it uses is made only when it is asked for. Made with the call, it would be gathered
+//! again for each call round it, since calls are nested in actuals.
+ghost use Rattle.std.specs.Prelude.{◌≡◌, false, IfOk, IsFalse};
 ghost use Rattle.std.specs.List.{list_any};
-ghost use Rattle.occ_project.specs.declared.expanded.Location.{Location as ALocation};
-ghost use Rattle.occ_usage_values.specs.Calls.{called_all};
-ghost use Rattle.occ_usage_values.specs.Uses.{is_writing as spec_is_writing};
+ghost use Rattle.occ_usage_values.specs.Uses.{is_write as spec_is_write};
 ghost use Rattle.occ_usage_values.specs.Views.{actual_views, call_at};
 ghost use Rattle.occ_usage_values.specs.declared.uses.Use.{Use as AUse};
 
 use super::bound::{Bound, body_at};
-use super::uses::Use;
+use super::uses::{Use, is_write};
 use super::using::{actuals_uses, called_uses, places};
 use occ_base::Items;
 use occ_project::Location;
-use occ_types::UseKind;
 use occ_typing_rules::TypedActual;
 use occ_usage_parts::SelectedPart;
 use std::alloc::{AllocError, Global};
@@ -97,7 +94,7 @@ impl<'a> Call<'a> {
     /// Whether its body writes something; else the call writes nothing.
     #[tactic(auto, using(crate::proofs::Writing::writes_none))]
     pub fn writes(&self) -> bool
-        ensures { IsFalse result → list_any (λ (found : AUse). spec_is_writing found.kind) self.now.uses ≡ false }
+        ensures { IsFalse result → list_any (λ (found : AUse). spec_is_write found.kind) self.now.uses ≡ false }
     {
         has_write(body_at(self.env, self.callee))
     }
@@ -105,19 +102,7 @@ impl<'a> Call<'a> {
 
 /// Whether one of these is a write.
 fn has_write(uses: &[Use]) -> bool
-    ensures { result ≡ list_any (λ (found : AUse). spec_is_writing found.kind) uses.now }
+    ensures { result ≡ list_any (λ (found : AUse). spec_is_write found.kind) uses.now }
 {
-    uses.iter().any(|found| is_writing(found.kind))
-}
-
-/// Whether it is a write.
-fn is_writing(kind: UseKind) -> bool
-    ensures { result ≡ spec_is_writing kind }
-{
-    match kind {
-        UseKind::Read => false,
-        UseKind::Write => true,
-        UseKind::Input => false,
-        UseKind::Output => false,
-    }
+    uses.iter().any(|found| is_write(found.kind))
 }

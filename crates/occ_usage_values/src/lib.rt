@@ -27,6 +27,6 @@ pub use naming::{
 pub use occ_usage_parts::Chain;
 pub use placing::place;
 pub use timing::is_timer;
-pub use uses::Use;
+pub use uses::{Use, is_write};
 pub use using::{element_uses, expression_uses, instance_uses, use_of};
 pub use valuing::{element_size, size, value};
