@@ -1,3 +1,4 @@
 pub mod Elements
 pub mod Repeating
 pub mod Sameness
+pub mod Writing

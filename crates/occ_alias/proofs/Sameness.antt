@@ -38,7 +38,7 @@ use Rattle.occ_usage_values.specs.Naming.{element_depends, expr_depends, exprs_d
 use Rattle.occ_usage_values.specs.Views.{actual_views}
 use Rattle.occ_usage_values.specs.declared.bound.Bound.{Bound}
 use Rattle.occ_usage_values.specs.declared.bound.Bound.TheVariants as b
-use Rattle.occ_usage_values.specs.declared.call.Call.{Call}
+use Rattle.occ_usage_values.specs.Calls.{Call}
 use Rattle.occ_usage_values.specs.declared.uses.Use.{Use}
 use Rattle.occ_usage_values.proofs.Differing.{call_calls_same, found_same, left_false, right_false}
 use Rattle.occ_usage_values.proofs.Depending.{all_actuals_stay, element_stays, expr_stays}

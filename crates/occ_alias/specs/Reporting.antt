@@ -6,7 +6,7 @@ use Rattle.occ_base.specs.declared.code.Code.TheVariants as code
 use Rattle.occ_base.specs.declared.diag.Diag.{Diag}
 use Rattle.occ_usage_values.specs.Bounds.{Env, body_of}
 use Rattle.occ_usage_values.specs.declared.bound.Bound.TheVariants as b
-use Rattle.occ_usage_values.specs.declared.call.Call.{Call}
+use Rattle.occ_usage_values.specs.Calls.{Call}
 use Rattle.occ_usage_values.specs.declared.uses.Use.{Use}
 use Rattle.occ_usage_conflicts.specs.Kinds.{is_read, is_write}
 use Rattle.occ_usage_parts.specs.Selecting.{part_of}

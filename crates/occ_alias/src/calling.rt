@@ -1,7 +1,8 @@
 //! A4: the actuals of a call against each other, against what its body uses, and what they read against its writes.
 //! `docs/LANGUAGE.md, The abbreviation rule`.
 ghost use Rattle.std.specs.Prelude.{◌≡◌, ◌++◌, [], IsFalse, List, OnOk};
-ghost use Rattle.occ_alias.specs.AbbreviationRule.{actual_faults as spec_actual_faults, actuals_faults as spec_actuals_faults, call_faults as spec_call_faults, calls_faults as spec_calls_faults, free_fault as spec_free_fault, free_faults as spec_free_faults, place_pair as spec_place_pair, place_pairs as spec_place_pairs};
+ghost use Rattle.occ_alias.specs.AbbreviationRule.{actual_faults as spec_actual_faults, actuals_faults as spec_actuals_faults, call_faults as spec_call_faults, calls_faults as spec_calls_faults, free_fault as spec_free_fault, free_faults as spec_free_faults, place_pair as spec_place_pair, place_pairs as spec_place_pairs, written_faults as spec_written_faults};
+ghost use Rattle.occ_base.specs.declared.code.Code.TheVariants as code;
 ghost use Rattle.occ_project.specs.declared.expanded.Location.{Location as ALocation};
 ghost use Rattle.occ_usage_parts.specs.declared.part.Part.{Part as APart};
 ghost use Rattle.occ_usage_values.specs.declared.bound.Bound.{Bound as ABound};
@@ -137,34 +138,45 @@ fn actuals_faults(
     Ok(())
 }
 
+/// What is reported of what the body of a call writes and its actuals read.
+fn body_faults(
+    alloc: Global,
+    env: &[Bound],
+    call: &Call<'_>,
+    faults: &mut Reported,
+) -> Result<(), AllocError>
+    ensures { OnOk result (faults.new ≡ faults.old ++ spec_written_faults code.A4 env.now call.now.uses call.now.reads) }
+{
+    if !call.writes() {
+        return Ok(());
+    }
+    let uses = call.uses(alloc)?;
+    let reads = call.reads(alloc)?;
+    written_faults(
+        alloc,
+        Code::A4,
+        env,
+        uses.as_slice(),
+        reads.as_slice(),
+        faults,
+    )
+}
+
 /// What is reported of a call at a line.
 fn call_faults(
     alloc: Global,
     line: &Location,
     env: &[Bound],
-    call: &Call,
+    call: &Call<'_>,
     faults: &mut Reported,
 ) -> Result<(), AllocError>
     ensures { OnOk result (faults.new ≡ faults.old ++ spec_call_faults line.now env.now call.now) }
 {
-    let body = body_at(env, call.callee);
-    actuals_faults(
-        alloc,
-        line,
-        call.callee,
-        env,
-        body,
-        call.places.as_slice(),
-        faults,
-    )?;
-    written_faults(
-        alloc,
-        Code::A4,
-        env,
-        call.uses.as_slice(),
-        call.reads.as_slice(),
-        faults,
-    )
+    let callee = call.callee();
+    let body = body_at(env, callee);
+    let places = call.places(alloc)?;
+    actuals_faults(alloc, line, callee, env, body, places.as_slice(), faults)?;
+    body_faults(alloc, env, call, faults)
 }
 
 /// What is reported of calls at a line.
@@ -172,7 +184,7 @@ pub(crate) fn calls_faults(
     alloc: Global,
     line: &Location,
     env: &[Bound],
-    calls: &[Call],
+    calls: &[Call<'_>],
     faults: &mut Reported,
 ) -> Result<(), AllocError>
     ensures { OnOk result (faults.new ≡ faults.old ++ spec_calls_faults line.now env.now calls.now) }

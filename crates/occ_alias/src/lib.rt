@@ -14,6 +14,6 @@ pub use grade::graver;
 pub use line::line_faults;
 pub use occ_usage_lines::{
     UsageScope, body_bound, each_effect, each_uses, enter_all, enter_index, enter_line,
-    form_depends, form_effect, form_uses, index_value, is_write, number_after, used,
+    form_depends, form_effect, form_uses, index_value, number_after, used,
 };
 pub use reported::{Reported, Run, again};

@@ -1,7 +1,8 @@
 //! The abbreviation rule at one line, over its uses and calls.
 ghost use Rattle.std.specs.Prelude.{◌≡◌, ◌++◌, OnOk};
 ghost use Rattle.occ_alias.specs.AbbreviationRule.{evaluated_faults as spec_evaluated_faults, results_faults as spec_results_faults, reported_with};
-ghost use Rattle.occ_alias.specs.LineCalls.{form_calls as spec_form_calls};
+ghost use Rattle.occ_alias.specs.LineCalls.{each_calls as spec_each_calls, form_calls as spec_form_calls};
+ghost use Rattle.occ_usage_lines.specs.Forms.{each_uses as spec_each_uses};
 
 use super::calling::calls_faults;
 use super::line_calls::{each_calls, form_calls};
@@ -22,13 +23,30 @@ fn evaluated_faults(
     line: &Location,
     env: &UsageScope,
     uses: &[Use],
-    calls: &[Call],
+    calls: &[Call<'_>],
     faults: &mut Reported,
 ) -> Result<(), AllocError>
     ensures { OnOk result (faults.new ≡ faults.old ++ spec_evaluated_faults line.now env.now uses.now calls.now) }
 {
     scope_faults(alloc, env, uses, faults)?;
     calls_faults(alloc, line, env.as_slice(), calls, faults)
+}
+
+/// What is reported of values that are evaluated at a line.
+fn values_faults(
+    alloc: Global,
+    values: &[Shared<TypedExpr>],
+    line: &Location,
+    env: &UsageScope,
+    faults: &mut Reported,
+) -> Result<(), AllocError>
+    ensures { OnOk result (faults.new ≡ faults.old ++ spec_evaluated_faults line.now env.now (spec_each_uses values.now env.now line.now) (spec_each_calls values.now env.now line.now)) }
+{
+    let mut uses = Items::new(alloc);
+    each_uses(alloc, values, env.as_slice(), line, &mut uses)?;
+    let mut calls = Items::new(alloc);
+    each_calls(alloc, values, env.as_slice(), line, &mut calls)?;
+    evaluated_faults(alloc, line, env, uses.as_slice(), calls.as_slice(), faults)
 }
 
 /// What is reported of the results of a FUNCTION of one line.
@@ -45,11 +63,7 @@ fn results_faults(
 {
     let depth = env.len();
     enter_all(alloc, formals, env)?;
-    let mut uses = Items::new(alloc);
-    each_uses(alloc, results, env.as_slice(), line, &mut uses)?;
-    let mut calls = Items::new(alloc);
-    each_calls(alloc, results, env.as_slice(), line, &mut calls)?;
-    evaluated_faults(alloc, line, env, uses.as_slice(), calls.as_slice(), faults)?;
+    values_faults(alloc, results, line, env, faults)?;
     env.cut(depth);
     Ok(())
 }

@@ -11,12 +11,12 @@ use occ_usage_values::{Bound, Call, element_calls, expression_calls, instance_ca
 use std::alloc::{AllocError, Global};
 
 /// The calls in expressions that are evaluated.
-pub fn each_calls(
+pub fn each_calls<'a>(
     alloc: Global,
-    exprs: &[Shared<TypedExpr>],
-    env: &[Bound],
-    line: &Location,
-    calls: &mut Items<Call>,
+    exprs: &'a [Shared<TypedExpr>],
+    env: &'a [Bound],
+    line: &'a Location,
+    calls: &mut Items<Call<'a>>,
 ) -> Result<(), AllocError>
     ensures { OnOk result (calls.new ≡ calls.old ++ spec_each_calls exprs.now env.now line.now) }
 {
@@ -27,12 +27,12 @@ pub fn each_calls(
 }
 
 /// The calls in elements that are written.
-fn elements_calls(
+fn elements_calls<'a>(
     alloc: Global,
-    elements: &[TypedElement],
-    env: &[Bound],
-    line: &Location,
-    calls: &mut Items<Call>,
+    elements: &'a [TypedElement],
+    env: &'a [Bound],
+    line: &'a Location,
+    calls: &mut Items<Call<'a>>,
 ) -> Result<(), AllocError>
     ensures { OnOk result (calls.new ≡ calls.old ++ spec_elements_calls elements.now env.now line.now) }
 {
@@ -43,12 +43,12 @@ fn elements_calls(
 }
 
 /// The calls in a target of an input.
-fn target_calls(
+fn target_calls<'a>(
     alloc: Global,
-    target: &TypedTarget,
-    env: &[Bound],
-    line: &Location,
-    calls: &mut Items<Call>,
+    target: &'a TypedTarget,
+    env: &'a [Bound],
+    line: &'a Location,
+    calls: &mut Items<Call<'a>>,
 ) -> Result<(), AllocError>
     ensures { OnOk result (calls.new ≡ calls.old ++ spec_target_calls target.now env.now line.now) }
 {
@@ -62,12 +62,12 @@ fn target_calls(
 }
 
 /// The calls in the targets of an input.
-fn targets_calls(
+fn targets_calls<'a>(
     alloc: Global,
-    targets: &[TypedTarget],
-    env: &[Bound],
-    line: &Location,
-    calls: &mut Items<Call>,
+    targets: &'a [TypedTarget],
+    env: &'a [Bound],
+    line: &'a Location,
+    calls: &mut Items<Call<'a>>,
 ) -> Result<(), AllocError>
     ensures { OnOk result (calls.new ≡ calls.old ++ spec_targets_calls targets.now env.now line.now) }
 {
@@ -78,12 +78,12 @@ fn targets_calls(
 }
 
 /// The calls in what an output sends as one.
-fn output_calls(
+fn output_calls<'a>(
     alloc: Global,
-    output: &TypedOutput,
-    env: &[Bound],
-    line: &Location,
-    calls: &mut Items<Call>,
+    output: &'a TypedOutput,
+    env: &'a [Bound],
+    line: &'a Location,
+    calls: &mut Items<Call<'a>>,
 ) -> Result<(), AllocError>
     ensures { OnOk result (calls.new ≡ calls.old ++ spec_output_calls output.now env.now line.now) }
 {
@@ -98,12 +98,12 @@ fn output_calls(
 }
 
 /// The calls in what an output sends.
-fn outputs_calls(
+fn outputs_calls<'a>(
     alloc: Global,
-    outputs: &[TypedOutput],
-    env: &[Bound],
-    line: &Location,
-    calls: &mut Items<Call>,
+    outputs: &'a [TypedOutput],
+    env: &'a [Bound],
+    line: &'a Location,
+    calls: &mut Items<Call<'a>>,
 ) -> Result<(), AllocError>
     ensures { OnOk result (calls.new ≡ calls.old ++ spec_outputs_calls outputs.now env.now line.now) }
 {
@@ -114,12 +114,12 @@ fn outputs_calls(
 }
 
 /// The calls in an input.
-fn input_calls(
+fn input_calls<'a>(
     alloc: Global,
-    input: &TypedInput,
-    env: &[Bound],
-    line: &Location,
-    calls: &mut Items<Call>,
+    input: &'a TypedInput,
+    env: &'a [Bound],
+    line: &'a Location,
+    calls: &mut Items<Call<'a>>,
 ) -> Result<(), AllocError>
     ensures { OnOk result (calls.new ≡ calls.old ++ spec_input_calls input.now env.now line.now) }
 {
@@ -144,12 +144,12 @@ fn input_calls(
 }
 
 /// The calls in what stands after the `&` of a guard.
-fn guard_calls(
+fn guard_calls<'a>(
     alloc: Global,
-    guard: &TypedGuard,
-    env: &[Bound],
-    line: &Location,
-    calls: &mut Items<Call>,
+    guard: &'a TypedGuard,
+    env: &'a [Bound],
+    line: &'a Location,
+    calls: &mut Items<Call<'a>>,
 ) -> Result<(), AllocError>
     ensures { OnOk result (calls.new ≡ calls.old ++ spec_guard_calls guard.now env.now line.now) }
 {
@@ -161,12 +161,12 @@ fn guard_calls(
 }
 
 /// The calls in the base and the count of a replicator.
-fn replicator_calls(
+fn replicator_calls<'a>(
     alloc: Global,
-    replicator: &Option<TypedReplicator>,
-    env: &[Bound],
-    line: &Location,
-    calls: &mut Items<Call>,
+    replicator: &'a Option<TypedReplicator>,
+    env: &'a [Bound],
+    line: &'a Location,
+    calls: &mut Items<Call<'a>>,
 ) -> Result<(), AllocError>
     ensures { OnOk result (calls.new ≡ calls.old ++ spec_replicator_calls replicator.now env.now line.now) }
 {
@@ -180,12 +180,12 @@ fn replicator_calls(
 }
 
 /// The calls in a line, without those of the lines under it.
-pub fn form_calls(
+pub fn form_calls<'a>(
     alloc: Global,
-    form: &TypedForm,
-    env: &[Bound],
-    line: &Location,
-    calls: &mut Items<Call>,
+    form: &'a TypedForm,
+    env: &'a [Bound],
+    line: &'a Location,
+    calls: &mut Items<Call<'a>>,
 ) -> Result<(), AllocError>
     ensures { OnOk result (calls.new ≡ calls.old ++ spec_form_calls form.now env.now line.now) }
 {

@@ -14,9 +14,8 @@ use occ_base::{Code, Grade};
 use occ_project::Location;
 use occ_types::UseKind;
 use occ_usage_conflicts::name_of_root;
-use occ_usage_lines::is_write;
 use occ_usage_parts::{Overlap, Part, SelectedPart, overlap, overlap_selected};
-use occ_usage_values::{Bound, Use};
+use occ_usage_values::{Bound, Use, is_write};
 use std::alloc::{AllocError, Global};
 
 fn is_read(kind: UseKind) -> bool

@@ -55,7 +55,7 @@ use Rattle.occ_usage_parts.specs.Parts.{overlap_of}
 use Rattle.occ_usage_values.specs.Bounds.{body_of}
 use Rattle.occ_usage_values.specs.declared.bound.Bound.{Bound}
 use Rattle.occ_usage_values.specs.declared.bound.Bound.TheVariants as b
-use Rattle.occ_usage_values.specs.declared.call.Call.{Call as ACall}
+use Rattle.occ_usage_values.specs.Calls.{Call as ACall}
 use Rattle.occ_running.specs.Works as works
 use Rattle.occ_running.specs.Works.{Piece, items_behind, behind_line, replicator_of, rounds, rounds_in}
 use Rattle.occ_sound.specs.Covering.{Allows, AllowsOne, AreIndices, item_uses}

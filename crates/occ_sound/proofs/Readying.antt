@@ -60,7 +60,7 @@ use Rattle.occ_usage_parts.specs.declared.place.SelectedPart.{SelectedPart}
 use Rattle.occ_usage_values.specs.Bounds.{body_of}
 use Rattle.occ_usage_values.specs.Views.{actuals_calls, call_at, call_calls, call_uses, called_uses, places_of, selectors_calls}
 use Rattle.occ_usage_values.specs.declared.bound.Bound.{Bound}
-use Rattle.occ_usage_values.specs.declared.call.Call.{Call as ACall}
+use Rattle.occ_usage_values.specs.Calls.{Call as ACall}
 use Rattle.occ_running.specs.Works.{Piece}
 use Rattle.occ_sound.specs.Covering.{AreIndices, item_uses}
 use Rattle.occ_sound.specs.Safe.{IsClean, IsSilent, NoClash, Separate}

@@ -8,7 +8,7 @@ ghost use Rattle.occ_usage_values.specs.Bounds.{Env};
 ghost use Rattle.occ_usage_values.specs.Making.{CallUses};
 ghost use Rattle.occ_usage_values.specs.Views.{ActualView, call_uses, element_view, expr_view};
 ghost use Rattle.occ_usage_values.specs.declared.bound.Bound.{Bound as ABound};
-ghost use Rattle.occ_usage_values.specs.declared.call.Call.{Call as ACall};
+ghost use Rattle.occ_usage_values.specs.Calls.{Call as ACall};
 ghost use Rattle.occ_usage_values.specs.Uses.{at_line};
 ghost use Rattle.occ_usage_values.specs.declared.uses.Use.{Use as AUse};
 ghost use Rattle.occ_usage_conflicts.specs.Distinct.{distinct, gathered, same_use};

@@ -12,14 +12,14 @@ ghost use Rattle.occ_usage.specs.Trees.{head_of, trees_of, under as spec_under};
 
 use super::finding::Finding;
 use super::walk::{go_over, known_replicator};
-use occ_alias::{UsageScope, each_effect, each_uses, enter_all, form_effect, form_uses, is_write};
+use occ_alias::{UsageScope, each_effect, each_uses, enter_all, form_effect, form_uses};
 use occ_base::{Code, Diag, Items, Shared};
 use occ_project::Location;
 use occ_scope::ScopeEntry;
 use occ_typing::{Typed, TypedForm, TypedLine};
 use occ_typing_rules::TypedExpr;
 use occ_usage_conflicts::root_name;
-use occ_usage_values::{Bound, Use};
+use occ_usage_values::{Bound, Use, is_write};
 use std::alloc::{AllocError, Global};
 
 /// Where a line stands.

@@ -2,18 +2,13 @@
 use Rattle.std.specs.Prelude.{Bool, true, false, ◌&&◌, ◌||◌}
 use Rattle.occ_types.specs.declared.interface.UseKind.{UseKind}
 use Rattle.occ_types.specs.declared.interface.UseKind.TheVariants as kind
+pub use Rattle.occ_usage_values.specs.Uses.{is_write}
 
 abbrev pub is_read : UseKind → Bool
 is_read kind.Read = true
 is_read kind.Write = false
 is_read kind.Input = false
 is_read kind.Output = false
-
-abbrev pub is_write : UseKind → Bool
-is_write kind.Read = false
-is_write kind.Write = true
-is_write kind.Input = false
-is_write kind.Output = false
 
 abbrev pub is_input : UseKind → Bool
 is_input kind.Read = false

@@ -14,4 +14,4 @@ pub use entering::{body_bound, enter_all, enter_index, enter_line, index_value, 
 pub use form::{each_uses, form_uses, used};
 pub use naming::form_depends;
 pub use occ_typing_lines::{TypedForm, TypedGuard};
-pub use scope::{UsageScope, is_write};
+pub use scope::UsageScope;

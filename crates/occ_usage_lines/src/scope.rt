@@ -5,15 +5,13 @@ ghost use Rattle.std.specs.List.Sorted.{IsStrictlySortedBy};
 ghost use Rattle.std.specs.Ordering.{nat_cmp};
 ghost use Rattle.std.specs.Prelude.{[], length, take, true, IfOk, OnOk, slice_get, ℕ, ◌<◌, ◌≤◌, ◌≡◌, ◌++◌, ◌-◌, ◌∷◌, ◌||◌};
 ghost use Rattle.occ_usage_values.specs.declared.uses.Use.{Use as AUse};
-ghost use Rattle.occ_usage_conflicts.specs.Kinds.{is_write as spec_is_write};
 ghost use Rattle.occ_usage_lines.specs.Concern.{concerned as spec_concerned, concerns as spec_concerns, is_near as spec_is_near, is_some as spec_is_some, some_near as spec_some_near};
 ghost use Rattle.occ_usage_lines.specs.inside.Noting.{concerns_one as spec_concerns_one, is_asked, is_chosen, is_found, is_in};
 
 use super::noting::{asked, note_bound, strike_bound};
 use occ_base::Items;
-use occ_types::UseKind;
 use occ_usage_parts::{Overlap, Part, SelectedPart, overlap, overlap_selected};
-use occ_usage_values::{Bound, Use};
+use occ_usage_values::{Bound, Use, is_write};
 use std::alloc::{AllocError, Global};
 use std::marker::Model;
 
@@ -117,18 +115,6 @@ impl UsageScope {
         let mut numbers = found(alloc, self.bounds.as_slice(), named, read, uses)?;
         put_in_order(&mut numbers);
         Ok(Items::from_vec(numbers))
-    }
-}
-
-/// Whether a use writes.
-pub fn is_write(kind: UseKind) -> bool
-    ensures { result ≡ spec_is_write kind }
-{
-    match kind {
-        UseKind::Read => false,
-        UseKind::Write => true,
-        UseKind::Input => false,
-        UseKind::Output => false,
     }
 }
 

@@ -17,7 +17,7 @@ use Rattle.occ_usage_values.specs.Values.{both, converted_to, folded_after, int_
 use Rattle.occ_usage_values.specs.Views.{ActualView, ElementView, ExprView, SelectorView, actual_step, actuals_calls, actuals_effect, actuals_uses, around, call_at, call_calls, call_effect, call_uses, called_uses, composed, each_calls, each_effect, each_uses, element_step, expr_step, folded_all, name_value, placed, placed_from, places_of, selector_step, selectors_calls, selectors_effect, selectors_uses, sized, values_of}
 use Rattle.occ_usage_values.specs.declared.bound.Bound.{Bound}
 use Rattle.occ_usage_values.specs.declared.bound.Bound.TheVariants as b
-use Rattle.occ_usage_values.specs.declared.call.Call.{Call}
+use Rattle.occ_usage_values.specs.Calls.{Call}
 use Rattle.occ_usage_values.specs.declared.uses.Use.{Use}
 
 -- ---- tests

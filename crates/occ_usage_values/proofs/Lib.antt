@@ -4,3 +4,4 @@ pub mod Names
 pub mod Differing
 pub mod Sameness
 pub mod Depending
+pub mod Writing

@@ -7,6 +7,17 @@ use Rattle.occ_types.specs.declared.interface.UseKind.{UseKind}
 use Rattle.occ_usage_values.specs.Uses.{at_line}
 use Rattle.occ_usage_values.specs.declared.uses.Use.{Use}
 
+-- A call that is evaluated at a line.
+pub record Call : Type 0 where
+  -- the number of the specification that is called
+  pub callee : ℕ
+  -- what each actual is: nothing that is used, where its formal is VAL, or where it is a timer
+  pub places : List (Option SelectedPart)
+  -- what the values and the subscripts of its actuals use
+  pub reads : List Use
+  -- what its body uses
+  pub uses : List Use
+
 -- a use of a place, if it is one that is used
 abbrev pub made : Location → UseKind → Option SelectedPart → List Use
 made line kind None = []

@@ -14,9 +14,8 @@ use Rattle.occ_typing_rules.specs.declared.expr.TypedActual.{TypedActual}
 use Rattle.occ_typing_rules.specs.declared.expr.TypedElement.{TypedElement}
 use Rattle.occ_typing_rules.specs.declared.expr.TypedExpr.{TypedExpr}
 use Rattle.occ_usage_values.specs.Bounds.{Env, body_of, effect_of, place_of, size_of, value_of}
-use Rattle.occ_usage_values.specs.Calls.{called_all, made}
+use Rattle.occ_usage_values.specs.Calls.{Call, called_all, made}
 use Rattle.occ_usage_values.specs.Values.{converted_to, folded_after, int_of, known_or, less, one, size_value, whole}
-use Rattle.occ_usage_values.specs.declared.call.Call.{Call}
 use Rattle.occ_usage_values.specs.declared.uses.Use.{Use}
 
 -- what is used, and what is called, at a line

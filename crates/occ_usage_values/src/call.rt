@@ -10,19 +10,6 @@ use occ_types::UseKind;
 use occ_usage_parts::SelectedPart;
 use std::alloc::{AllocError, Global};
 
-/// A call that is evaluated.
-#[derive(Drop)]
-pub struct Call {
-    /// The number of the specification that is called.
-    pub callee: usize,
-    /// What each actual is: nothing that is used, where its formal is VAL, or where it is a timer.
-    pub places: Items<Option<SelectedPart>>,
-    /// What the values and the subscripts of its actuals use.
-    pub reads: Items<Use>,
-    /// What its body uses.
-    pub uses: Items<Use>,
-}
-
 /// A use of a place, if it is one that is used.
 #[inline(always)]
 pub(crate) fn push_made(

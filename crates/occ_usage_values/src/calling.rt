@@ -1,54 +1,23 @@
 //! The calls that are evaluated in expressions, elements and instances, each with its actuals.
-ghost use Rattle.std.specs.Prelude.{◌≡◌, ◌++◌, ◌∷◌, [], IfOk, OnOk, slice_get};
-ghost use Rattle.occ_usage_values.specs.Views.{actual_view, actual_views, actuals_calls as spec_actuals_calls, call_at as spec_call_at, call_calls as spec_call_calls, each_calls as spec_each_calls, element_view, expr_view, expr_views, selector_view, selector_views, selectors_calls as spec_selectors_calls};
+ghost use Rattle.std.specs.Prelude.{◌≡◌, ◌++◌, ◌∷◌, [], OnOk};
+ghost use Rattle.occ_usage_values.specs.Views.{actual_view, actual_views, actuals_calls as spec_actuals_calls, call_calls as spec_call_calls, each_calls as spec_each_calls, element_view, expr_view, expr_views, selector_view, selector_views, selectors_calls as spec_selectors_calls};
 
-use super::bound::{Bound, body_at};
-use super::call::{Call, called};
-use super::using::{actuals_uses, places};
+use super::bound::Bound;
+use super::evaluated::Call;
 use occ_base::{Items, Shared};
 use occ_project::Location;
 use occ_typing_rules::{Selector, TypedActual, TypedElement, TypedExpr};
 use std::alloc::{AllocError, Global};
 
-/// A call of the specification with this number.
-fn call_at(
-    alloc: Global,
-    callee: usize,
-    actuals: &[TypedActual],
-    env: &[Bound],
-    line: &Location,
-) -> Result<Call, AllocError>
-    ensures { IfOk result (λ call. call ≡ spec_call_at callee (actual_views actuals.now) env.now line.now) }
-{
-    let places = places(alloc, actuals, env)?;
-    let mut reads = Items::new(alloc);
-    actuals_uses(alloc, actuals, env, line, &mut reads)?;
-    let mut uses = Items::new(alloc);
-    called(
-        alloc,
-        line,
-        callee,
-        places.as_slice(),
-        body_at(env, callee),
-        &mut uses,
-    )?;
-    Ok(Call {
-        callee,
-        places,
-        reads,
-        uses,
-    })
-}
-
 /// The calls of an expression that is evaluated at a line.
 #[tactic(auto, using(crate::proofs::Views::expr_calls_rules))]
 #[cycle(calling)]
-pub fn expression_calls(
+pub fn expression_calls<'a>(
     alloc: Global,
-    expr: &TypedExpr,
-    env: &[Bound],
-    line: &Location,
-    calls: &mut Items<Call>,
+    expr: &'a TypedExpr,
+    env: &'a [Bound],
+    line: &'a Location,
+    calls: &mut Items<Call<'a>>,
 ) -> Result<(), AllocError>
     ensures { OnOk result (calls.new ≡ calls.old ++ (expr_view expr.now).calls env.now line.now) }
 {
@@ -79,12 +48,12 @@ pub fn expression_calls(
 
 /// The calls of expressions.
 #[cycle(calling)]
-fn each_calls(
+fn each_calls<'a>(
     alloc: Global,
-    exprs: &[Shared<TypedExpr>],
-    env: &[Bound],
-    line: &Location,
-    calls: &mut Items<Call>,
+    exprs: &'a [Shared<TypedExpr>],
+    env: &'a [Bound],
+    line: &'a Location,
+    calls: &mut Items<Call<'a>>,
 ) -> Result<(), AllocError>
     ensures { OnOk result (calls.new ≡ calls.old ++ spec_each_calls (expr_views exprs.now) env.now line.now) }
 {
@@ -101,12 +70,12 @@ fn each_calls(
 /// The calls in the subscripts and bounds of an element.
 #[tactic(auto, using(crate::proofs::Views::element_calls_rules))]
 #[cycle(calling)]
-pub fn element_calls(
+pub fn element_calls<'a>(
     alloc: Global,
-    element: &TypedElement,
-    env: &[Bound],
-    line: &Location,
-    calls: &mut Items<Call>,
+    element: &'a TypedElement,
+    env: &'a [Bound],
+    line: &'a Location,
+    calls: &mut Items<Call<'a>>,
 ) -> Result<(), AllocError>
     ensures { OnOk result (calls.new ≡ calls.old ++ (element_view element.now).calls env.now line.now) }
 {
@@ -115,12 +84,12 @@ pub fn element_calls(
 
 /// The calls in the subscripts and bounds of selectors.
 #[cycle(calling)]
-fn selectors_calls(
+fn selectors_calls<'a>(
     alloc: Global,
-    selectors: &[Selector],
-    env: &[Bound],
-    line: &Location,
-    calls: &mut Items<Call>,
+    selectors: &'a [Selector],
+    env: &'a [Bound],
+    line: &'a Location,
+    calls: &mut Items<Call<'a>>,
 ) -> Result<(), AllocError>
     ensures { OnOk result (calls.new ≡ calls.old ++ spec_selectors_calls (selector_views selectors.now) env.now line.now) }
 {
@@ -133,12 +102,12 @@ fn selectors_calls(
 /// The calls in the subscript or the bounds of a selector.
 #[tactic(auto, using(crate::proofs::Views::selector_calls_rules))]
 #[cycle(calling)]
-fn selector_calls(
+fn selector_calls<'a>(
     alloc: Global,
-    selector: &Selector,
-    env: &[Bound],
-    line: &Location,
-    calls: &mut Items<Call>,
+    selector: &'a Selector,
+    env: &'a [Bound],
+    line: &'a Location,
+    calls: &mut Items<Call<'a>>,
 ) -> Result<(), AllocError>
     ensures { OnOk result (calls.new ≡ calls.old ++ (selector_view selector.now).calls env.now line.now) }
 {
@@ -157,12 +126,12 @@ fn selector_calls(
 /// The calls in an actual.
 #[tactic(auto, using(crate::proofs::Views::actual_calls_rules))]
 #[cycle(calling)]
-fn actual_calls(
+fn actual_calls<'a>(
     alloc: Global,
-    actual: &TypedActual,
-    env: &[Bound],
-    line: &Location,
-    calls: &mut Items<Call>,
+    actual: &'a TypedActual,
+    env: &'a [Bound],
+    line: &'a Location,
+    calls: &mut Items<Call<'a>>,
 ) -> Result<(), AllocError>
     ensures { OnOk result (calls.new ≡ calls.old ++ (actual_view actual.now).calls env.now line.now) }
 {
@@ -174,12 +143,12 @@ fn actual_calls(
 
 /// The calls in actuals.
 #[cycle(calling)]
-fn actuals_calls(
+fn actuals_calls<'a>(
     alloc: Global,
-    actuals: &[TypedActual],
-    env: &[Bound],
-    line: &Location,
-    calls: &mut Items<Call>,
+    actuals: &'a [TypedActual],
+    env: &'a [Bound],
+    line: &'a Location,
+    calls: &mut Items<Call<'a>>,
 ) -> Result<(), AllocError>
     ensures { OnOk result (calls.new ≡ calls.old ++ spec_actuals_calls (actual_views actuals.now) env.now line.now) }
 {
@@ -191,16 +160,16 @@ fn actuals_calls(
 
 /// A call of the specification with this number, after those in its actuals.
 #[cycle(calling)]
-pub fn instance_calls(
+pub fn instance_calls<'a>(
     alloc: Global,
     callee: usize,
-    actuals: &[TypedActual],
-    env: &[Bound],
-    line: &Location,
-    calls: &mut Items<Call>,
+    actuals: &'a [TypedActual],
+    env: &'a [Bound],
+    line: &'a Location,
+    calls: &mut Items<Call<'a>>,
 ) -> Result<(), AllocError>
     ensures { OnOk result (calls.new ≡ calls.old ++ spec_call_calls callee (actual_views actuals.now) env.now line.now) }
 {
     actuals_calls(alloc, actuals, env, line, calls)?;
-    calls.push(call_at(alloc, callee, actuals, env, line)?)
+    calls.push(Call::new(callee, actuals, env, line))
 }

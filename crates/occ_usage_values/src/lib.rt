@@ -6,6 +6,7 @@ mod bound;
 mod call;
 mod calling;
 mod effect;
+mod evaluated;
 mod naming;
 mod placing;
 pub mod rows;
@@ -15,9 +16,10 @@ mod using;
 mod valuing;
 
 pub use bound::{Bound, body_at, effect_at, place_at};
-pub use call::{Call, called};
+pub use call::called;
 pub use calling::{element_calls, expression_calls, instance_calls};
 pub use effect::{element_effect, expression_effect, instance_effect};
+pub use evaluated::Call;
 pub use naming::{
     actuals_depend, element_depends, element_names, expression_depends, expression_names,
     expressions_depend,
@@ -25,6 +27,6 @@ pub use naming::{
 pub use occ_usage_parts::Chain;
 pub use placing::place;
 pub use timing::is_timer;
-pub use uses::Use;
+pub use uses::{Use, is_write};
 pub use using::{element_uses, expression_uses, instance_uses, use_of};
 pub use valuing::{element_size, size, value};

@@ -1,6 +1,6 @@
 //! A use: a part, its kind, a line, and the abbreviations by whose names it is made.
 ghost use Rattle.std.specs.Prelude.{◌≡◌, IfOk};
-ghost use Rattle.occ_usage_values.specs.Uses.{at_line};
+ghost use Rattle.occ_usage_values.specs.Uses.{at_line, is_write as spec_is_write};
 
 use occ_project::Location;
 use occ_types::UseKind;
@@ -32,5 +32,17 @@ impl Use {
             line: line.share()?,
             chain: self.chain.share()?,
         })
+    }
+}
+
+/// Whether a use of this kind writes.
+pub fn is_write(kind: UseKind) -> bool
+    ensures { result ≡ spec_is_write kind }
+{
+    match kind {
+        UseKind::Read => false,
+        UseKind::Write => true,
+        UseKind::Input => false,
+        UseKind::Output => false,
     }
 }

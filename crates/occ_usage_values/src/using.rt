@@ -1,11 +1,10 @@
 //! The uses of expressions, elements and instances where they are evaluated. Nothing under SIZE is used.
 //! `docs/LANGUAGE.md, Uses`.
-ghost use Rattle.std.specs.Prelude.{◌≡◌, ◌++◌, ◌∷◌, [], IfOk, None, OnOk, Some, slice_get};
+ghost use Rattle.std.specs.Prelude.{◌≡◌, ◌++◌, ◌∷◌, [], IfOk, None, OnOk, Some};
 ghost use Rattle.occ_usage_parts.specs.Selecting.{whole as spec_whole, with_subscript};
-ghost use Rattle.occ_usage_values.specs.Bounds.{body_of};
-ghost use Rattle.occ_usage_values.specs.Calls.{called_all, made as spec_made};
+ghost use Rattle.occ_usage_values.specs.Calls.{made as spec_made};
 ghost use Rattle.occ_usage_values.specs.Values.{int_of};
-ghost use Rattle.occ_usage_values.specs.Views.{actual_view, actual_views, call_uses as spec_call_uses, element_view, expr_view, expr_views, placed, places_of, selector_view, selector_views, actuals_uses as spec_actuals_uses, each_uses as spec_each_uses, selectors_uses as spec_selectors_uses};
+ghost use Rattle.occ_usage_values.specs.Views.{actual_view, actual_views, call_uses as spec_call_uses, called_uses as spec_called_uses, element_view, expr_view, expr_views, placed, places_of, selector_view, selector_views, actuals_uses as spec_actuals_uses, each_uses as spec_each_uses, selectors_uses as spec_selectors_uses};
 
 use super::bound::{Bound, body_at, is_placed, is_root};
 use super::call::{called, push_made};
@@ -176,6 +175,26 @@ pub(crate) fn places(
     Ok(found)
 }
 
+/// What a call of the specification with this number does by the uses of its body.
+pub(crate) fn called_uses(
+    alloc: Global,
+    callee: usize,
+    actuals: &[TypedActual],
+    env: &[Bound],
+    line: &Location,
+    uses: &mut Items<Use>,
+) -> Result<(), AllocError>
+    ensures { OnOk result (uses.new ≡ uses.old ++ spec_called_uses callee (actual_views actuals.now) env.now line.now) }
+{
+    match body_at(env, callee) {
+        [] => Ok(()),
+        body => {
+            let places = places(alloc, actuals, env)?;
+            called(alloc, line, callee, places.as_slice(), body, uses)
+        }
+    }
+}
+
 /// The uses of an expression that is evaluated at a line.
 #[tactic(auto, using(crate::proofs::Views::expr_uses_rules))]
 #[cycle(using)]
@@ -336,13 +355,5 @@ pub fn instance_uses(
     ensures { OnOk result (uses.new ≡ uses.old ++ spec_call_uses callee (actual_views actuals.now) env.now line.now) }
 {
     actuals_uses(alloc, actuals, env, line, uses)?;
-    let places = places(alloc, actuals, env)?;
-    called(
-        alloc,
-        line,
-        callee,
-        places.as_slice(),
-        body_at(env, callee),
-        uses,
-    )
+    called_uses(alloc, callee, actuals, env, line, uses)
 }
