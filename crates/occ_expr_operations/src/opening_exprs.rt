@@ -10,7 +10,7 @@ ghost use Rattle.occ_typing_rules.specs.Placing.{placed as spec_placed};
 ghost use Rattle.occ_typing_rules.specs.declared.open_expr.OpenExpr.TheVariants as d;
 ghost use Rattle.occ_types.specs.View.{fields_in};
 
-use occ_base::{Boxed, Items, Shared};
+use occ_base::{Items, Shared};
 use occ_types::{Field, Monadic, OccType, Operator, array_of, fields_of, unnamed};
 use occ_typing_operands::{Kind, Known, UntypedConstant, int};
 use occ_typing_rules::{OpenExpr, TypedExpr, all_placed, each_placed, known_of, placed};
@@ -111,10 +111,7 @@ pub fn operation_open(
 {
     match whole {
         Kind::Faulty => Ok(OpenExpr::Faulty),
-        Kind::Untyped(untyped) => {
-            let operands = Boxed::new(alloc, operands)?;
-            Ok(OpenExpr::Operation(untyped.share()?, operator, operands))
-        }
+        Kind::Untyped(untyped) => Ok(OpenExpr::Operation(untyped.share()?, operator, operands)),
         Kind::Known(known) => known_operation(alloc, known, operator, operands.as_slice()),
     }
 }
@@ -146,8 +143,7 @@ fn untyped_shift(
     let Some(count) = place_tree(alloc, count)? else {
         return Ok(OpenExpr::Faulty);
     };
-    let untyped = Boxed::new(alloc, untyped.share()?)?;
-    Ok(OpenExpr::Shifted(untyped, operator, shifted, count))
+    Ok(OpenExpr::Shifted(untyped.share()?, operator, shifted, count))
 }
 
 /// A shift of a typed operand.

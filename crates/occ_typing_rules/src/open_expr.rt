@@ -1,11 +1,11 @@
 //! Open expressions: typed as far as a type is known, else an untyped constant or the items of a table.
 use super::expr::TypedExpr;
-use occ_base::{Boxed, Items, Shared};
+use occ_base::{Items, Shared};
 use occ_types::{Monadic, Operator};
 use occ_typing_operands::UntypedConstant;
 
 /// An expression before its place gives a type to what is free in it, and to its tables. What does not depend on the
-/// place is typed already. Operands and shifts have a box for a part, so that a literal among many takes five words.
+/// place is typed already.
 #[cycle(open_expr)]
 #[derive(Drop)]
 pub enum OpenExpr {
@@ -15,11 +15,11 @@ pub enum OpenExpr {
     /// A free literal, with the `-` that makes one literal with it.
     Literal(UntypedConstant),
     /// Untyped operands with one operator between each two.
-    Operation(UntypedConstant, Operator, Boxed<Items<OpenExpr>>),
+    Operation(UntypedConstant, Operator, Items<OpenExpr>),
     /// An operator in front of an untyped operand.
     Applied(UntypedConstant, Monadic, Shared<OpenExpr>),
     /// A shift of an untyped operand by a count.
-    Shifted(Boxed<UntypedConstant>, Operator, Shared<OpenExpr>, Shared<TypedExpr>),
+    Shifted(UntypedConstant, Operator, Shared<OpenExpr>, Shared<TypedExpr>),
     /// A table without its type.
     Table(Items<OpenExpr>),
 }

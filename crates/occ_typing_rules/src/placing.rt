@@ -2,7 +2,7 @@
 //! `docs/LANGUAGE.md, The typed tree`.
 #![tactic(auto, using(crate::proofs::OpenPlacing::placing_rules, crate::proofs::Fronts::front_rules))]
 
-ghost use Rattle.std.specs.Prelude.{◌≡◌, ◌∷◌, [], IfOk, IsTrue, Some};
+ghost use Rattle.std.specs.Prelude.{◌≡◌, ◌∷◌, [], IfOk, Some};
 ghost use Rattle.occ_typing_rules.specs.Placing.{all_placed as spec_all_placed, constant_in, count_of as spec_count_of, each_placed as spec_each_placed, known_in as spec_known_in, operation_of, placed as spec_placed, placed_table as spec_placed_table, table_under, value_in as spec_value_in};
 ghost use Rattle.occ_types.specs.View.{as_array};
 ghost use Rattle.occ_typing_rules.specs.declared.expr.TypedExpr.TheVariants as typed;
@@ -10,7 +10,7 @@ ghost use Rattle.occ_typing_rules.specs.declared.expr.TypedExpr.TheVariants as t
 use super::expr::TypedExpr;
 use super::open_expr::OpenExpr;
 use occ_base::{Items, Shared, one_item};
-use occ_types::{MaybeValue, OccType, Operator, Value, array_of, base_of, same_type};
+use occ_types::{MaybeValue, OccType, Operator, Value, array_of, base_of};
 use occ_typing_operands::{Known, TypedValue, UntypedConstant, number};
 use std::alloc::{AllocError, Global};
 
@@ -81,54 +81,6 @@ fn count_of(items: usize) -> Option<u32>
     u32::try_from(items).ok()
 }
 
-/// Whether a tree is this literal.
-fn is_literal(tree: &TypedExpr, of: &OccType, value: Option<Value>) -> bool
-    ensures { IsTrue result → tree.now ≡ typed.Literal (record { of = of.now; value = value }) }
-{
-    match tree {
-        TypedExpr::Literal(known) => known.value.get() == value && same_type(known.of.get(), of),
-        _ => false,
-    }
-}
-
-/// The tree of a literal. It is that of the part before it, where that is the same literal: in tables one value often stands
-/// many times.
-fn literal_after(
-    alloc: Global,
-    before: Option<&Shared<TypedExpr>>,
-    untyped: &UntypedConstant,
-    of: &Shared<OccType>,
-) -> Result<Shared<TypedExpr>, AllocError>
-    ensures { IfOk result (λ tree. tree ≡ typed.Literal (spec_known_in untyped.now of.now)) }
-{
-    let value = value_in(untyped, of.get());
-    if let Some(tree) = before {
-        if is_literal(tree.get(), of.get(), value) {
-            return tree.share();
-        }
-    }
-    let of = of.share()?;
-    let value = MaybeValue::new(value);
-    Shared::new(alloc, TypedExpr::Literal(Known { of, value }))
-}
-
-/// The tree of a part where this type is wanted of it, after those of the parts before it; none where it has a fault.
-#[cycle(placing)]
-#[inline(always)]
-fn placed_after(
-    alloc: Global,
-    trees: &[Shared<TypedExpr>],
-    open_expr: &OpenExpr,
-    of: &Shared<OccType>,
-) -> Result<Option<Shared<TypedExpr>>, AllocError>
-    ensures { IfOk result (λ tree. tree ≡ spec_placed open_expr.now of.now) }
-{
-    match open_expr {
-        OpenExpr::Literal(untyped) => Ok(Some(literal_after(alloc, trees.last(), untyped, of)?)),
-        _ => placed(alloc, open_expr, of),
-    }
-}
-
 /// The trees of the parts of an open expression where one type is wanted of each; none where one has a fault.
 #[cycle(placing)]
 pub fn all_placed(
@@ -140,7 +92,7 @@ pub fn all_placed(
 {
     let mut trees = Items::from_vec(Vec::with_capacity(alloc, open_exprs.len())?);
     for open_expr in open_exprs {
-        let Some(tree) = placed_after(alloc, trees.as_slice(), open_expr, of)? else {
+        let Some(tree) = placed(alloc, open_expr, of)? else {
             return Ok(None);
         };
         trees.push(tree)?;
@@ -198,7 +150,7 @@ pub fn placed(
         OpenExpr::Typed(tree) => Ok(Some(tree.share()?)),
         OpenExpr::Literal(untyped) => whole(alloc, TypedExpr::Literal(known_in(untyped, of)?)),
         OpenExpr::Operation(untyped, operator, operands) => {
-            let trees = all_placed(alloc, operands.get().as_slice(), of)?;
+            let trees = all_placed(alloc, operands.as_slice(), of)?;
             operation(alloc, untyped, *operator, trees, of)
         }
         OpenExpr::Applied(untyped, operator, operand) => {
@@ -212,7 +164,7 @@ pub fn placed(
             let Some(tree) = placed(alloc, operand.get(), of)? else {
                 return Ok(None);
             };
-            shifted(alloc, known_in(untyped.get(), of)?, *operator, tree, count)
+            shifted(alloc, known_in(untyped, of)?, *operator, tree, count)
         }
         OpenExpr::Table(items) => table(alloc, items.as_slice(), of),
     }
