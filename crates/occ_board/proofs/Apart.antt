@@ -61,6 +61,16 @@ abbrev ws_on : List (List ℕ) → List ℕ → List (List ℕ)
 ws_on [] v = v ∷ []
 ws_on (x ∷ ws) v = x ∷ ws_on ws v
 
+-- what a unit under the root uses is under it
+module _ (files : List Read) (root : List ℕ) where
+  way_on : (u : List ℕ) (ws : List (List ℕ)) (v w : List ℕ) → UsesBy files u ws v → Uses files v w → UsesBy files u (ws_on ws v) w
+  way_on u [] v w h k = (h, k)
+  way_on u (x ∷ ws) v w h k = (h.0, way_on x ws v w h.1 k)
+
+  pub under_on : (v w : List ℕ) → IsUnder files root v → Uses files v w → IsUnder files root w
+  under_on v w (inl e) h = inr ([], subst (λ (x : List ℕ). Uses files x w) e h)
+  under_on v w (inr way) h = inr (ws_on way.0 v, way_on root way.0 v w way.1 h)
+
 module _ (files : List Read) (file : Read) (root : List ℕ) (apart : IsApart files file.name root)
     (put_is : (name : List ℕ) → file_of (put files file) name ≡ cond (bytes_eq file.name name) file (file_of files name))
     (alone : (fs others : List Read) (unit : List ℕ) → ((name : List ℕ) → is_among (expansion fs unit).reads name ≡ true → open_source others name ≡ open_source fs name) → expansion others unit ≡ expansion fs unit)
@@ -91,33 +101,24 @@ module _ (files : List Read) (file : Read) (root : List ℕ) (apart : IsApart fi
     by true = map_among (file_of later) (file_of files) (expansion files v).reads (λ name a. same_file v name under a)
     by false = refl
 
-  -- what a unit under the root uses is under it
-  way_on : (u : List ℕ) (ws : List (List ℕ)) (v w : List ℕ) → UsesBy files u ws v → Uses files v w → UsesBy files u (ws_on ws v) w
-  way_on u [] v w h k = (h, k)
-  way_on u (x ∷ ws) v w h k = (h.0, way_on x ws v w h.1 k)
-
-  under_on : (v w : List ℕ) → IsUnder files root v → Uses files v w → IsUnder files root w
-  under_on v w (inl e) h = inr ([], subst (λ (x : List ℕ). Uses files x w) e h)
-  under_on v w (inr way) h = inr (ws_on way.0 v, way_on root way.0 v w way.1 h)
-
   -- ways from units under the root
   there : (v : List ℕ) (ws : List (List ℕ)) (w : List ℕ) → IsUnder files root v → UsesBy files v ws w → UsesBy later v ws w
   there v [] w under h = ap (λ (us : List (List ℕ)). is_among us w) (same_used v under) ∙ h
-  there v (x ∷ ws) w under h = (ap (λ (us : List (List ℕ)). is_among us x) (same_used v under) ∙ h.0, there x ws w (under_on v x under h.0) h.1)
+  there v (x ∷ ws) w under h = (ap (λ (us : List (List ℕ)). is_among us x) (same_used v under) ∙ h.0, there x ws w (under_on files root v x under h.0) h.1)
 
   back : (v : List ℕ) (ws : List (List ℕ)) (w : List ℕ) → IsUnder files root v → UsesBy later v ws w → UsesBy files v ws w
   back v [] w under h = ap (λ (us : List (List ℕ)). is_among us w) (sym (same_used v under)) ∙ h
   back v (x ∷ ws) w under h =
       let first : Uses files v x = ap (λ (us : List (List ℕ)). is_among us x) (sym (same_used v under)) ∙ h.0 in
-      (first, back x ws w (under_on v x under first) h.1)
+      (first, back x ws w (under_on files root v x under first) h.1)
 
   from_later : (u v : List ℕ) → IsUnder files root u → Uses files u v → (v ≡ u) ⊎ Reaches later v u → (v ≡ u) ⊎ Reaches files v u
   from_later u v under uses (inl e) = inl e
-  from_later u v under uses (inr way) = inr (way.0, back v way.0 u (under_on u v under uses) way.1)
+  from_later u v under uses (inr way) = inr (way.0, back v way.0 u (under_on files root u v under uses) way.1)
 
   to_later : (u v : List ℕ) → IsUnder files root u → Uses files u v → (v ≡ u) ⊎ Reaches files v u → (v ≡ u) ⊎ Reaches later v u
   to_later u v under uses (inl e) = inl e
-  to_later u v under uses (inr way) = inr (way.0, there v way.0 u (under_on u v under uses) way.1)
+  to_later u v under uses (inr way) = inr (way.0, there v way.0 u (under_on files root u v under uses) way.1)
 
   same_circle : (u v : List ℕ) → IsUnder files root u → Uses files u v → is_circular later u v ≡ is_circular files u v
   same_circle u v under uses = same_truth (is_circular later u v) (is_circular files u v)
@@ -126,7 +127,7 @@ module _ (files : List Read) (file : Read) (root : List ℕ) (apart : IsApart fi
 
   same_standing : (u v : List ℕ) → IsUnder files root u → Uses files u v → standing_of later u v ≡ standing_of files u v
   same_standing u v under uses =
-      ap (λ (f : Read). cond (is_some f.source) (cond (is_circular later u v) standing.Circular standing.Below) standing.Absent) (same_file v v (under_on u v under uses) (itself files v))
+      ap (λ (f : Read). cond (is_some f.source) (cond (is_circular later u v) standing.Circular standing.Below) standing.Absent) (same_file v v (under_on files root u v under uses) (itself files v))
       ∙ ap (λ (b : Bool). cond (is_some (file_of files v).source) (cond b standing.Circular standing.Below) standing.Absent) (same_circle u v under uses)
 
   same_rests : (u : List ℕ) → IsUnder files root u → rest_units later u ≡ rest_units files u
@@ -155,10 +156,10 @@ module _ (files : List Read) (file : Read) (root : List ℕ) (apart : IsApart fi
     module _ (here : (u : List ℕ) → checked files u ≡ check_step files u (checked files)) (then : (u : List ℕ) → checked later u ≡ check_step later u (checked later)) where
       same_checked : (u : List ℕ) → IsUnder files root u → checked later u ≡ checked files u
       same_checked = along_rests files h fall (λ u. IsUnder files root u → checked later u ≡ checked files u) (λ u rests under.
-          then u ∙ ap check_of (input_by (checked later) (checked files) u under (λ v a. rests v a (under_on u v under (rest_uses u v a)))) ∙ sym (here u))
+          then u ∙ ap check_of (input_by (checked later) (checked files) u under (λ v a. rests v a (under_on files root u v under (rest_uses u v a)))) ∙ sym (here u))
 
       same_input : (u : List ℕ) → IsUnder files root u → input later u ≡ input files u
-      same_input u under = input_by (checked later) (checked files) u under (λ v a. same_checked v (under_on u v under (rest_uses u v a)))
+      same_input u under = input_by (checked later) (checked files) u under (λ v a. same_checked v (under_on files root u v under (rest_uses u v a)))
 
       pub same_input_there : input later root ≡ input files root
       same_input_there = same_input root (inl refl)
@@ -170,7 +171,7 @@ module _ (files : List Read) (file : Read) (root : List ℕ) (apart : IsApart fi
             ∙ ap (λ (f : Read). is_some f.source && (is_cached cached (input later u) && list_all (done later cached) (rest_units later u))) (same_file u u under (itself files u))
             ∙ ap (λ (i : Input). is_open files u && (is_cached cached i && list_all (done later cached) (rest_units later u))) (same_input u under)
             ∙ ap (λ (us : List (List ℕ)). is_open files u && (is_cached cached (input files u) && list_all (done later cached) us)) (same_rests u under)
-            ∙ ap (λ (b : Bool). is_open files u && (is_cached cached (input files u) && b)) (same_all (done later cached) (done files cached) (rest_units files u) (λ v a. rests v a (under_on u v under (rest_uses u v a))))
+            ∙ ap (λ (b : Bool). is_open files u && (is_cached cached (input files u) && b)) (same_all (done later cached) (done files cached) (rest_units files u) (λ v a. rests v a (under_on files root u v under (rest_uses u v a))))
             ∙ sym (done_here u))
 
         pub same_done_there : done later cached root ≡ done files cached root

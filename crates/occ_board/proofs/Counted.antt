@@ -13,10 +13,6 @@ use Rattle.occ_project_graph.specs.Graph.{is_among}
 abbrev one : Bool → ℕ
 one b = cond b 1 0
 
-pub none_flagged : (n : ℕ) → 0 ≡ flagged (replicate n false)
-none_flagged zero = refl
-none_flagged (suc n) = let rest = none_flagged n in omega (arith, rest)
-
 pub one_set : (flags : List Bool) (p : ℕ) → p < length flags → get_or flags p false ≡ false → flagged flags + 1 ≡ flagged (slice_set flags p true)
 one_set [] p lt e = absurd (omega (arith, lt))
 one_set (f ∷ flags) zero lt e = let none : one f ≡ 0 = ap one e in omega (arith, none)

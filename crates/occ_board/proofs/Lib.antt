@@ -29,6 +29,7 @@ pub mod Alikes
 pub mod Adopted
 pub mod Least
 pub mod Newly
+pub mod Untouched
 pub mod Opened
 pub mod Counted
 pub mod Revisions

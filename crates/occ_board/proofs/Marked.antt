@@ -1,6 +1,6 @@
 -- What an edit may concern is marked.
 use Rattle.std.proofs.Common.{◌≡◌, ◌∙◌, ◌<◌, ◌≤◌, ◌+◌, ◌&&◌, ◌||◌, ◌⊎◌, ◌↔◌, ℕ, zero, suc, Bool, true, false, cond, not, List, [], ◌∷◌, ◌++◌, length, map, get_or, drop, take, Option, Some, None, refl, sym, ap, subst, inl, inr, arith}
-use Rattle.std.proofs.lemmas.Bool.{eqb-false, eqb-true}
+use Rattle.std.proofs.lemmas.Bool.{cases_lt, eqb-false, eqb-true}
 use Rattle.std.proofs.lemmas.List.{take_more}
 use Rattle.std.proofs.lemmas.Slice.Eq.{bytes_eq-Decides}
 use Rattle.std.specs.List.{filter, list_all}
@@ -220,7 +220,7 @@ module _ (files : List Read) (project : IsProject files) (name : List ℕ) (at :
         in
         reads_by files name (is_unit v) v refl unit none
 
-  unmarked_apart : (u : List ℕ) → is_unit u ≡ true → Unmarked u → IsApart files name u
+  pub unmarked_apart : (u : List ℕ) → is_unit u ≡ true → Unmarked u → IsApart files name u
   unmarked_apart u unit h v (inl k) = unmarked_reads v (ap is_unit k ∙ unit) (subst Unmarked (sym k) h)
   unmarked_apart u unit h v (inr way) = let there = way_unmarked u way.0 v h way.1 in unmarked_reads v there.1 there.0
 
@@ -300,7 +300,7 @@ get_set_apart (f ∷ flags) zero (suc p) b h = refl
 get_set_apart (f ∷ flags) (suc n) zero b h = refl
 get_set_apart (f ∷ flags) (suc n) (suc p) b h = get_set_apart flags n p b (λ e. h (ap suc e))
 
-set_as_long : (flags : List Bool) (n : ℕ) (b : Bool) → length (slice_set flags n b) ≡ length flags
+pub set_as_long : (flags : List Bool) (n : ℕ) (b : Bool) → length (slice_set flags n b) ≡ length flags
 set_as_long [] n b = refl
 set_as_long (f ∷ flags) zero b = refl
 set_as_long (f ∷ flags) (suc n) b = ap suc (set_as_long flags n b)
@@ -342,6 +342,26 @@ unflag_more old indices flags next n index h lt here put = record {
       ∙ none (get_or old p false) (is_among (take n indices) p) ∙ ap (λ (b : Bool). get_or old p false && not (is_among (take n indices) p || b)) (sym e)
   by p false e = get_set_apart flags index p false (λ q. eqb-false index p e (sym q)) ∙ h.each p ∙ same (get_or old p false) (is_among (take n indices) p)
       ∙ ap (λ (b : Bool). get_or old p false && not (is_among (take n indices) p || b)) (sym e)
+
+-- all lose their flags one after the other
+pub unset_more : (flags next : List Bool) (n : ℕ) → ((p : ℕ) → p < n → get_or flags p false ≡ false) → next ≡ slice_set flags n false → (p : ℕ) → p < n + 1 → get_or next p false ≡ false
+unset_more flags next n h e p lt = ap (λ (fs : List Bool). get_or fs p false) e ∙ by (n == p) refl where
+  by : (b : Bool) → (n == p) ≡ b → get_or (slice_set flags n false) p false ≡ false
+  by true k = subst (λ (q : ℕ). get_or (slice_set flags n false) q false ≡ false) (eqb-true n p k) (get_unset flags n)
+  by false k = elim (cases_lt p n) [
+    | inl less ↦ get_set_apart flags n p false (λ q. eqb-false n p k (sym q)) ∙ h p less
+    | inr most ↦ let same : n ≡ p = omega (arith, most, lt) in absurd (eqb-false n p k same)
+  ]
+
+pub unset_over : (flags : List Bool) (n : ℕ) → ((p : ℕ) → p < n → get_or flags p false ≡ false) → length flags ≤ n → (p : ℕ) → get_or flags p false ≡ false
+unset_over flags n h most p = elim (cases_lt p n) [
+  | inl less ↦ h p less
+  | inr over ↦ none_over flags p (omega (arith, most, over))
+] where
+  none_over : (fs : List Bool) (q : ℕ) → length fs ≤ q → get_or fs q false ≡ false
+  none_over [] q le = refl
+  none_over (f ∷ fs) zero le = absurd (omega (arith, le))
+  none_over (f ∷ fs) (suc q) le = none_over fs q (omega (arith, le))
 
 take_all : (ws : List ℕ) (n : ℕ) → length ws ≤ n → take n ws ≡ ws
 take_all [] zero h = refl

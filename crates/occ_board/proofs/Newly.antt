@@ -1,7 +1,6 @@
 -- The flags after an edit of a file that is new, and that no file looks for.
-use Rattle.std.proofs.Common.{◌≡◌, ◌∙◌, ◌<◌, ◌≤◌, ◌+◌, ◌&&◌, ◌||◌, ℕ, Bool, true, false, cond, List, [], ◌∷◌, length, map, get_or, replicate, Option, Some, None, refl, sym, ap, subst, inl, inr, arith}
+use Rattle.std.proofs.Common.{◌≡◌, ◌∙◌, ◌<◌, ◌≤◌, ◌+◌, ◌&&◌, ◌||◌, ℕ, Bool, true, false, cond, List, [], ◌∷◌, length, map, get_or, Option, Some, None, refl, sym, ap, subst, inl, inr, arith}
 use Rattle.std.proofs.lemmas.Bool.{cases_lt}
-use Rattle.std.proofs.lemmas.List.{length-replicate}
 use Rattle.std.proofs.lemmas.List.Edits.{get_or-insert_above, get_or-insert_at, get_or-insert_below, length-insert}
 use Rattle.std.proofs.lemmas.Slice.Eq.{bytes_eq-Decides}
 use Rattle.std.specs.List.{insert, slice_get}
@@ -28,7 +27,7 @@ use Rattle.occ_project.specs.Entries.{is_among}
 use Rattle.occ_project.specs.Expansion.{expansion}
 use Rattle.occ_project.specs.Reads.{index}
 use Rattle.occ_project.specs.declared.reads.Read.{Read}
-use Rattle.occ_project_units.proofs.Added.{index_new, index_then, put_long, put_longer}
+use Rattle.occ_project_units.proofs.Added.{index_new, index_then, put_long}
 use Rattle.occ_project_units.proofs.Edges.{absent_reads, placed_user}
 use Rattle.occ_project_units.proofs.Finding.{index_within}
 use Rattle.occ_project_units.specs.Along.{name_at}
@@ -173,7 +172,3 @@ module _ (files later : List Read) (file : Read) (at : ℕ) (project : IsProject
         let there : file_of later file.name ≡ file = ap (λ (fs : List Read). file_of fs file.name) put_is ∙ files_put files file file.name ∙ ap (λ (b : Bool). cond b file (file_of files file.name)) ((bytes_eq-Decides file.name file.name).1 refl) in
         let none : is_cached cached (input later (name_at later p)) ≡ false = ap (λ (u : List ℕ). is_cached cached (input later u)) (sym ((bytes_eq-Decides file.name (name_at later p)).0 same)) ∙ new_uncached later file cached unit there before in
         absurd (cc (none, its))
-
--- no flag is set where all are found anew
-pub all_long : (files later : List Read) (file : Read) (flags : List Bool) (count : ℕ) → flags ≡ replicate count false → count ≡ length files + 1 → later ≡ put files file → index file.name files ≡ None → length flags ≡ length later
-all_long files later file flags count f n e none = ap (length {A = Bool}) f ∙ length-replicate count false ∙ n ∙ sym (ap (length {A = Read}) e ∙ put_longer files file none)

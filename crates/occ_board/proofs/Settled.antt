@@ -1,5 +1,5 @@
 -- Flags of which none is wrong and none is missing are those of the units that are done.
-use Rattle.std.proofs.Common.{◌≡◌, ◌<◌, ◌≤◌, ◌+◌, ◌&&◌, ℕ, zero, suc, Bool, true, false, cond, List, [], ◌∷◌, length, replicate, get_or, Option, Some, None, refl, sym, ap, subst, ◌∙◌, arith, inl, inr, ◌⊎◌}
+use Rattle.std.proofs.Common.{◌≡◌, ◌<◌, ◌≤◌, ◌+◌, ◌&&◌, ℕ, zero, suc, Bool, true, false, cond, List, [], ◌∷◌, length, get_or, Option, Some, None, refl, sym, ap, subst, ◌∙◌, arith, inl, inr, ◌⊎◌}
 use Rattle.std.specs.List.{list_all, slice_get}
 use Rattle.std.specs.Prelude.{slice_set}
 use Rattle.std.specs.Option.{is_some, option_map, unwrap_or}
@@ -69,21 +69,12 @@ none_cached files cached flags e p lt h =
     let none : is_cached cached (input files (name_at files p)) ≡ false = ap (λ (ks : List Input). is_cached ks (input files (name_at files p))) e in
     absurd (cc (none, its))
 
-pub none_set : (n p : ℕ) → get_or (replicate n false) p false ≡ false
-none_set zero p = refl
-none_set (suc n) zero = refl
-none_set (suc n) (suc p) = none_set n p
-
 -- where none is set anything holds of the units whose flags are
 pub none_each : (files : List Read) (P : List ℕ → Type 0) (flags : List Bool) → ((p : ℕ) → get_or flags p false ≡ false) → (u : List ℕ) → flag_of files flags u ≡ true → P u
 none_each files P flags none u h = by (index u files) refl where
   by : (o : Option ℕ) → index u files ≡ o → P u
   by None e = let apart = no_flag files flags u e in absurd (cc (apart, h))
   by (Some p) e = let apart = flag_at files flags u p e ∙ none p in absurd (cc (apart, h))
-
--- so none is wrong
-pub none_sound : (files : List Read) (cached : List Input) (n : ℕ) → IsSound files cached (replicate n false)
-none_sound files cached n = none_each files (λ u. done files cached u ≡ true) (replicate n false) (none_set n)
 
 set_other : (flags : List Bool) (p q : ℕ) → get_or (slice_set flags p true) q false ≡ true → (p ≡ q) ⊎ (get_or flags q false ≡ true)
 set_other [] p q h = inr h

@@ -5,5 +5,6 @@ pub mod Holding
 pub mod Ready
 pub mod Revisions
 pub mod Touched
+pub mod Untouched
 pub mod Likeness
 pub mod Following

@@ -10,7 +10,7 @@ ghost use Rattle.occ_project_units.specs.Along.{name_at};
 ghost use Rattle.occ_project_units.specs.Indices.{graph_of, rest_units};
 ghost use Rattle.occ_project_units.specs.Project.{IsProject};
 ghost use Rattle.std.specs.List.{insert, list_all};
-ghost use Rattle.std.specs.Prelude.{◌≡◌, ◌<◌, ◌≤◌, ◌&&◌, ◌⊎◌, [], IfOk, IsFalse, IsTrue, OnErr, OnOk, Some, false, get_or, length, not, remove, replicate, slice_get, slice_set, true, ℕ};
+ghost use Rattle.std.specs.Prelude.{◌≡◌, ◌<◌, ◌≤◌, ◌&&◌, ◌⊎◌, [], IsFalse, IsTrue, OnErr, OnOk, Some, false, get_or, length, not, remove, slice_get, slice_set, true, ℕ};
 ghost use Rattle.std.specs.Str.{bytes_eq};
 
 use super::cached::Cached;
@@ -25,13 +25,6 @@ use occ_project_units::laws::users_law;
 use sqlite_items::at;
 use std::alloc::{AllocError, Global};
 use std::marker::Model;
-
-/// So many flags, none of which is set.
-fn no_flags(alloc: Global, count: usize) -> Result<Vec<bool>, AllocError>
-    ensures { IfOk result (λ flags. flags.items ≡ replicate count false) }
-{
-    Ok(vec![in alloc; false; count]?)
-}
 
 /// A flag for each index, and how many are set. In contracts it is the list of the flags.
 #[derive(Drop)]
@@ -63,16 +56,6 @@ impl Flags {
             flags: Vec::new(alloc),
             set: 0,
         }
-    }
-
-    /// For so many indices, none of which is set.
-    pub fn none(alloc: Global, count: usize) -> Result<Flags, AllocError>
-        ensures { IfOk result (λ flags. flags ≡ replicate count false) }
-    {
-        Ok(Flags {
-            flags: no_flags(alloc, count)?,
-            set: 0,
-        })
     }
 
     /// Takes memory for one more, so that the next is put in without a request.
@@ -152,6 +135,16 @@ pub fn unflag(flags: &mut Flags, indices: &Nodes<'_>)
 {
     for place in 0..indices.count() {
         flags.unset(indices.at(place));
+    }
+}
+
+/// Takes all flags.
+pub fn unflag_all(flags: &mut Flags)
+    ensures len { length flags.new ≡ length flags.old }
+    ensures flags { (p : ℕ) → get_or flags.new p false ≡ false }
+{
+    for index in 0..flags.as_slice().len() {
+        flags.unset(index);
     }
 }
 

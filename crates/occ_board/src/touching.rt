@@ -7,21 +7,22 @@ ghost use Rattle.occ_board.specs.inside.Verified.{AreVerified, looked};
 ghost use Rattle.occ_board.specs.inside.Revisions.{AllGivenByRevision, AreBefore};
 ghost use Rattle.occ_board.specs.inside.Ready.{AreAwaited, is_ready};
 ghost use Rattle.occ_board.specs.inside.Touched.{IsClosed};
+ghost use Rattle.occ_board.specs.inside.Untouched.{AreFlagsOfOthers, AreVerifiedOfOthers};
 ghost use Rattle.occ_check.specs.Input.{Input};
 ghost use Rattle.occ_project_graph.specs.Graph.{has_edge, is_among as spec_is_among};
 ghost use Rattle.occ_project.specs.Reads.{index as spec_index};
 ghost use Rattle.occ_project.specs.declared.reads.Read.{Read as ARead};
-ghost use Rattle.occ_project_units.specs.New.{IsNew};
+ghost use Rattle.occ_project_units.specs.New.{IsGap, IsNew};
 ghost use Rattle.occ_project_units.specs.Indices.{graph_of, readers_at};
 ghost use Rattle.occ_project_units.specs.Project.{IsProject, put};
-ghost use Rattle.occ_project_units.specs.Spelled.{AreSpelled};
+ghost use Rattle.occ_project_units.specs.Spelled.{AreSpelled, IsSpelled};
 ghost use Rattle.std.specs.BTreeSet.{contains};
 ghost use Rattle.std.specs.List.{insert};
 ghost use Rattle.std.specs.Ordering.{nat_cmp};
-ghost use Rattle.std.specs.Prelude.{◌≡◌, ◌<◌, ◌≤◌, ◌&&◌, ◌||◌, IfOk, List, None, OnErr, OnOk, Some, false, get_or, length, not, slice_get, true, ℕ};
+ghost use Rattle.std.specs.Prelude.{◌≡◌, ◌<◌, ◌≤◌, ◌&&◌, ◌||◌, IfOk, List, OnErr, OnOk, Some, false, get_or, length, not, slice_get, true, ℕ};
 
 use super::cached::Cached;
-use super::flags::{Flags, is_flagged, settle, settle_among, settle_from, unflag};
+use super::flags::{Flags, is_flagged, settle, settle_among, settle_from, unflag, unflag_all};
 use super::laws::{done_law, height_law};
 use super::touched::Touched;
 use super::verified::{forget_readers, verified_law, verify_none_at};
@@ -36,6 +37,9 @@ use occ_project_units::laws::{
     along_law, circle_law, names_law, put_law, readers_law, reads_law, users_law,
 };
 use std::alloc::{AllocError, Global};
+
+/// Where a new file has more users than these, most units are concerned, and all flags are set anew.
+const FEW: usize = 64;
 
 /// An edit of a file changes neither whether a unit is done nor what a verified outcome of it looked at, if the file is a read neither
 /// of the unit nor of a unit that it reaches.
@@ -266,19 +270,140 @@ fn renew_new(
     Ok(())
 }
 
-/// The graph, the flags and what is verified after the edit of a file that was not there, and that others look for.
-fn renew_all(
+/// Whether the file at an index is a unit that few use. The edit that puts it mostly concerns few units then. It promises nothing.
+fn is_used_by_few(graph: &Graph, name: FileName, index: usize) -> bool
+    requires { index < length graph.now }
+{
+    name.is_unit() && graph.users(index).count() <= FEW
+}
+
+/// The files that the edit may concern that put the one at an index: it, its readers, and all that reach one of these.
+fn touched_at(
+    alloc: Global,
+    graph: &mut Graph,
+    flags: &Flags,
+    index: usize,
+) -> Result<Touched, AllocError>
+    requires { index < length graph.old }
+    ensures same { graph.new ≡ graph.old }
+    ensures len { IfOk result (λ touched. length touched ≡ length graph.new) }
+    ensures here { IfOk result (λ touched. get_or touched index false ≡ true) }
+    ensures readers { IfOk result (λ touched. (p : ℕ) → spec_is_among (readers_at graph.new index) p ≡ true → get_or touched p false ≡ true) }
+    ensures closed { IfOk result (λ touched. IsClosed (graph_of graph.new) flags.now true touched) }
+{
+    let readers = graph.readers(alloc, index)?;
+    touched_by(alloc, graph, flags, true, index, readers.as_slice())
+}
+
+/// Sets the flags of all units that are done, where no flag is wrong or missing, and no outcome wrongly verified, but of units that an
+/// edit of the file of that name concerns, which are marked. It takes no memory.
+fn settle_touched(
+    graph: &Graph,
+    cached: &Cached,
+    flags: &mut Flags,
+    verified: &mut Flags,
+    name: FileName,
+    index: usize,
+    touched: &Touched,
+)
+    requires index { spec_index name graph.now ≡ Some index }
+    requires spelled { AreSpelled graph.now }
+    requires len { length flags.old ≡ length graph.now }
+    requires flags { AreFlagsOfOthers graph.now cached.now flags.old name }
+    requires reported { AllGivenByRevision graph.now cached.now }
+    requires verified { AreVerifiedOfOthers graph.now cached.now verified.old name }
+    requires marks { length touched.now ≡ length graph.now }
+    requires here { get_or touched.now index false ≡ true }
+    requires readers { (p : ℕ) → spec_is_among (readers_at graph.now index) p ≡ true → get_or touched.now p false ≡ true }
+    requires closed { IsClosed (graph_of graph.now) flags.old true touched.now }
+    ensures len { length flags.new ≡ length graph.now }
+    ensures flags { AreFlags graph.now cached.now flags.new }
+    ensures verified { AreVerified graph.now cached.now verified.new }
+{
+    let _files = graph.project().files();
+    names_law();
+    readers_law();
+    done_law();
+    let indices = Nodes::of_indices(touched.indices());
+    unflag(verified, &indices);
+    unflag(flags, &indices);
+    resettle(graph, cached, flags, verified, touched);
+}
+
+/// Sets the flags of all units that are done, whichever were set before. It takes no memory.
+fn settle_anew(graph: &Graph, cached: &Cached, flags: &mut Flags, verified: &mut Flags)
+    requires len { length flags.old ≡ length graph.now }
+    requires reported { AllGivenByRevision graph.now cached.now }
+    ensures len { length flags.new ≡ length graph.now }
+    ensures flags { AreFlags graph.now cached.now flags.new }
+    ensures verified { AreVerified graph.now cached.now verified.new }
+{
+    unflag_all(flags);
+    unflag_all(verified);
+    settle(graph, cached, flags, verified);
+}
+
+/// Sets the flags of all units that are done, where no flag is wrong or missing, and no outcome wrongly verified, but of units that an
+/// edit of the file of that name concerns. All flags are set anew where these are many or no outcome is cached, or where memory is
+/// refused.
+fn settle_others(
     alloc: Global,
     graph: &mut Graph,
     cached: &Cached,
     flags: &mut Flags,
     verified: &mut Flags,
     name: FileName,
+    index: usize,
+)
+    requires index { spec_index name graph.old ≡ Some index }
+    requires spelled { AreSpelled graph.old }
+    requires len { length flags.old ≡ length graph.old }
+    requires flags { AreFlagsOfOthers graph.old cached.now flags.old name }
+    requires reported { AllGivenByRevision graph.old cached.now }
+    requires verified { AreVerifiedOfOthers graph.old cached.now verified.old name }
+    ensures graph { graph.new ≡ graph.old }
+    ensures len { length flags.new ≡ length graph.new }
+    ensures flags { AreFlags graph.new cached.now flags.new }
+    ensures verified { AreVerified graph.new cached.now verified.new }
+{
+    if cached.is_empty() || !is_used_by_few(graph, name, index) {
+        settle_anew(graph, cached, flags, verified);
+        return;
+    }
+    match touched_at(alloc, graph, flags, index) {
+        Ok(touched) => settle_touched(graph, cached, flags, verified, name, index, &touched),
+        Err(_refused) => settle_anew(graph, cached, flags, verified),
+    }
+}
+
+/// A file has the lines that its text spells.
+fn spelled_law(source: &Option<Shared<Source>>)
+    ensures { IsSpelled source.now }
+{
+    if let Some(source) = source {
+        let _lines = source.get().lines();
+    }
+}
+
+/// The graph, the flags and what is verified after the edit of a file that was not there, and that others may look for. What the edit
+/// does not concern stays, but for its indices.
+fn renew_used(
+    alloc: Global,
+    graph: &mut Graph,
+    cached: &Cached,
+    flags: &mut Flags,
+    verified: &mut Flags,
+    at: usize,
+    name: FileName,
     revision: u32,
     source: Option<Shared<Source>>,
 ) -> Result<(), AllocError>
-    requires new { spec_index name graph.old ≡ None }
+    requires gap { IsGap name graph.old at }
+    requires spelled { AreSpelled graph.old }
+    requires len { length flags.old ≡ length graph.old }
+    requires flags { AreFlags graph.old cached.now flags.old }
     requires reported { AllGivenByRevision graph.old cached.now }
+    requires verified { AreVerified graph.old cached.now verified.old }
     requires before { AreBefore revision cached.now }
     ensures graph { OnOk result (graph.new ≡ put graph.old (record { name = name; revision = revision; source = source })) }
     ensures len { OnOk result (length flags.new ≡ length graph.new) }
@@ -286,14 +411,20 @@ fn renew_all(
     ensures verified { OnOk result (AreVerified graph.new cached.now verified.new) }
     ensures err { OnErr result ((graph.new ≡ graph.old) × (flags.new ≡ flags.old) × (verified.new ≡ verified.old)) }
 {
+    let _files = graph.project().files();
+    apart_law();
     put_law();
-    let count = graph.project().files().len() + 1;
-    let next = Flags::none(alloc, count)?;
-    let none = Flags::none(alloc, count)?;
-    graph.put(alloc, name, revision, source)?;
-    *flags = next;
-    *verified = none;
-    settle(graph, cached, flags, verified);
+    done_law();
+    reads_law();
+    spelled_law(&source);
+    verified.make_room()?;
+    flags.insert(at)?;
+    if let Err(refused) = graph.put(alloc, name, revision, source) {
+        flags.remove(at);
+        return Err(refused);
+    }
+    let _ = verify_none_at(verified, at);
+    settle_others(alloc, graph, cached, flags, verified, name, at);
     Ok(())
 }
 
@@ -466,8 +597,9 @@ pub fn renew(
         )?;
         return Ok(index);
     }
-    renew_all(
-        alloc, graph, cached, flags, verified, name, revision, source,
+    let index = graph.project().gap_of(name);
+    renew_used(
+        alloc, graph, cached, flags, verified, index, name, revision, source,
     )?;
-    Ok(graph.project().index_or_first(name))
+    Ok(index)
 }

@@ -260,6 +260,16 @@ impl Project {
         }
     }
 
+    /// Where a file of that name would stand, of which there is none.
+    pub fn gap_of(&self, name: FileName) -> usize
+        requires { spec_index name self.now ≡ None }
+        ensures { IsGap name self.now result }
+    {
+        match self.find(name) {
+            Ok(at) | Err(at) => at,
+        }
+    }
+
     /// Puts a file of a new name where it stands from then on.
     pub(crate) fn insert(&mut self, alloc: Global, at: usize, file: Read) -> Result<(), AllocError>
         requires { IsGap file.name self.old at }
