@@ -24,3 +24,8 @@ pub nothing_written : (c : Code) (env : Env) (us rs : List Use) → list_any (λ
 nothing_written c env [] rs h = refl
 nothing_written c env (u ∷ us) rs h =
     ap₂ (λ (a b : List Diag). a ++ b) (none_by c env u (left_false (writes u) (list_any writes us) h) rs) (nothing_written c env us rs (right_false (writes u) (list_any writes us) h))
+
+-- where nothing was read
+pub nothing_read : (c : Code) (env : Env) (us : List Use) → written_faults c env us [] ≡ []
+nothing_read c env [] = refl
+nothing_read c env (u ∷ us) = nothing_read c env us

@@ -150,8 +150,11 @@ fn body_faults(
     if !call.writes() {
         return Ok(());
     }
-    let uses = call.uses(alloc)?;
     let reads = call.reads(alloc)?;
+    if reads.is_empty() {
+        return Ok(());
+    }
+    let uses = call.uses(alloc)?;
     written_faults(
         alloc,
         Code::A4,

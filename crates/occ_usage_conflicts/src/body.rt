@@ -59,7 +59,7 @@ pub fn outside_uses(
 ) -> Result<Items<Use>, AllocError>
     ensures { IfOk result (λ seen. seen ≡ spec_body_uses number locals line.now uses) }
 {
-    let mut links = Links::none(alloc, uses.len())?;
+    let mut links = Links::none(alloc, uses.len().saturating_mul(2))?;
     let mut seen = Items::new(alloc);
     while let Some(found) = uses.pop() {
         add_outside(alloc, found, number, locals, line, &mut links, &mut seen)?;
