@@ -4,3 +4,4 @@ pub mod Decimals
 pub mod Fitting
 pub mod Alone
 pub mod Passing
+pub mod Named

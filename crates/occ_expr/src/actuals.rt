@@ -52,8 +52,9 @@ fn is_given(scope: &Scope, expr: &Expr, callee: &Name, place: usize) -> bool
     scope.is_known_to_pass(giver, formals.get().len(), callee, place)
 }
 
-/// Whether what is known of an expression is known to be of the type of a formal of the function of a name.
-fn is_taken(scope: &Scope, expr: &Expr, callee: &Name, place: usize) -> bool
+/// Whether what is known of an expression is known to be of the type of a formal of the function of a name, or of the data
+/// type that is the name.
+pub fn is_taken(scope: &Scope, expr: &Expr, callee: &Name, place: usize) -> bool
     ensures { (of : OccType) → formal_of (visible scope.now callee.now) place ≡ Some of → IsTrue result → IsKnownOf of ((expr_view expr.now).said scope.now).term }
 {
     match name_alone(expr) {

@@ -9,8 +9,8 @@ mod sides;
 mod target;
 mod walk;
 
-pub use actuals::takes_long;
-pub use names::{name_alone, name_of};
+pub use actuals::{is_taken, takes_long};
+pub use names::{name_alone, name_of, type_name};
 pub use sides::{each_one, side};
 pub use target::{root, target_of};
 pub use walk::{

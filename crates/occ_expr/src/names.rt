@@ -1,11 +1,12 @@
-//! Names alone, without subscripts.
+//! Names alone, without subscripts or dimensions.
 ghost use Rattle.std.specs.Prelude.{◌≡◌, [], List, MatchOption, ℕ};
 ghost use Rattle.occ_forms_expressions.specs.declared.tree.Element.TheVariants as elements;
 ghost use Rattle.occ_forms_expressions.specs.declared.tree.Expr.TheVariants as exprs;
 ghost use Rattle.occ_forms_expressions.specs.declared.tree.Operand.TheVariants as operands;
+ghost use Rattle.occ_forms_expressions.specs.declared.tree.TypeForm.TheVariants as forms;
 
 use occ_base::Name;
-use occ_forms_expressions::{Element, Expr, Operand};
+use occ_forms_expressions::{Element, Expr, Operand, TypeForm};
 
 /// The name that an element is, without subscripts.
 pub fn name_of(element: &Element) -> Option<&Name>
@@ -32,5 +33,20 @@ pub fn name_alone(expr: &Expr) -> Option<&Name>
     match operand {
         Operand::Element(element) => name_of(element),
         _ => None,
+    }
+}
+
+/// The name that a written type is, without dimensions.
+pub fn type_name(of: &TypeForm) -> Option<&Name>
+    ensures { MatchOption result ((name : List ℕ) → of.now ≡ forms.Named [] name → ⊥) (λ name. of.now ≡ forms.Named [] name.now) }
+{
+    match of {
+        TypeForm::Named(dimensions, name) => {
+            if dimensions.is_empty() {
+                return Some(name);
+            }
+            None
+        }
+        TypeForm::Builtin(_, _) => None,
     }
 }

@@ -5,12 +5,14 @@
 ghost use Rattle.std.specs.Prelude.{◌≡◌, ◌⊎◌, ◌≤◌, ◌-◌, ◌++◌, ◌∷◌, [], IfOk, IsTrue, MatchOption, None, OnErr, OnOk, Some, length, take};
 ghost use Rattle.std.specs.Option.{option_copied};
 ghost use Rattle.std.specs.List.{slice_get};
-ghost use Rattle.occ_scope.specs.Elements.{formal_at as spec_formal_at, formal_types, type_at as spec_type_at};
+ghost use Rattle.occ_types.specs.Fits.{unnamed as spec_unnamed};
+ghost use Rattle.occ_types.specs.View.{as_array};
+ghost use Rattle.occ_scope.specs.Elements.{component_type, formal_at as spec_formal_at, formal_types, type_at as spec_type_at};
 
 use super::meaning::Meaning;
 use super::scopes::SpecId;
 use occ_base::{Items, Shared};
-use occ_types::{Formal, OccType, same_type};
+use occ_types::{Formal, OccType, array_of, same_type, unnamed};
 use std::alloc::{AllocError, Global};
 use std::marker::Model;
 
@@ -62,6 +64,14 @@ fn in_function<'a>(
         Some(formal) => Some(formal.of.get()),
         None => Some(results.get(place - formals.len())?.get()),
     }
+}
+
+/// The type of the components of an array, perhaps under names.
+fn component_of(of: &OccType) -> Option<&OccType>
+    ensures { MatchOption result (component_type (as_array (spec_unnamed of.now)) ≡ None) (λ component. component_type (as_array (spec_unnamed of.now)) ≡ Some component.now) }
+{
+    let (_, component) = array_of(unnamed(of))?;
+    Some(component.get())
 }
 
 impl Meanings {
@@ -119,13 +129,16 @@ impl Meanings {
     }
 
     /// The type of a formal of the procedure or the function that the specification of this number names. The results of a
-    /// function stand after its formals.
+    /// function stand after its formals. A data type is itself at each place, and at each place of an array is one of its
+    /// components.
     pub(crate) fn formal_at(&self, place: SpecId, formal: usize) -> Option<&OccType>
         ensures { MatchOption result (spec_formal_at self.now place formal ≡ None) (λ of. spec_formal_at self.now place formal ≡ Some of.now) }
     {
         match self.meanings.get(place)?.get() {
+            Meaning::Type(Some(of)) => Some(of.of().get()),
             Meaning::Procedure(formals) => Some(formals.get().get(formal)?.of.get()),
             Meaning::Function(formals, results) => { in_function(formals.get(), results, formal) }
+            Meaning::Element(whole) => component_of(whole.of.get()),
             _ => None,
         }
     }

@@ -21,8 +21,8 @@ use occ_forms::{ItemForm, Recast, Specification};
 use occ_forms_expressions::{Element, Expr, TypeForm};
 use occ_scope::Scope;
 use occ_typing_specifications::{
-    ElementLine, ValueLine, abbreviation, data_type, declaration, protocol, recast_element,
-    recast_value, value,
+    ElementLine, ValueLine, abbreviation, compare_element, compare_value, data_type, declaration,
+    protocol, recast_element, recast_value, value,
 };
 use std::alloc::{AllocError, Global};
 
@@ -163,6 +163,7 @@ pub fn one_line(
             declaration_line(alloc, of, first, more.as_slice(), scope, next, faults)
         }
         Specification::Value(of, name, expr) => {
+            compare_value(of, expr, scope)?;
             value_line(alloc, of, name, expr, scope, next, faults)
         }
         Specification::DataType(name, of) => data_type_line(alloc, name, of, scope, next, faults),
@@ -171,6 +172,7 @@ pub fn one_line(
             function_line(alloc, head, first, more.as_slice(), scope, next, faults)
         }
         Specification::Abbreviation(of, name, element) => {
+            compare_element(of, element, scope)?;
             abbreviation_line(alloc, of, name, element, scope, next, faults)
         }
         Specification::Retyped(how, of, name, element) => {

@@ -3,5 +3,4 @@ pub mod Knowing
 pub mod OpenPlacing
 pub mod Fronts
 pub mod Counting
-pub mod Agreeing
 pub mod Numbers

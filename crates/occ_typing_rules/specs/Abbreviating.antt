@@ -1,8 +1,8 @@
 -- VAL abbreviations: what is reported of the value, and what is then known of the name.
-use Rattle.std.specs.Prelude.{◌≡◌, [], true, if◌then◌else◌}
+use Rattle.std.specs.Prelude.{[], if◌then◌else◌}
 use Rattle.occ_typing_operands.specs.Parts.{mismatched}
 use Rattle.occ_base.specs.declared.code.Code.TheVariants as code
-use Rattle.occ_types.specs.Fits.{fits, is_data}
+use Rattle.occ_types.specs.Fits.{is_data}
 use Rattle.occ_types.specs.declared.types.OccType.{OccType}
 use Rattle.occ_typing_operands.specs.Settling.{Finding, fault_of, known, silent}
 use Rattle.occ_typing_operands.specs.declared.kind.Kind.{Kind}
@@ -35,9 +35,3 @@ for_no_data x = and_then x.alone mismatched
 -- the value is of the type, and the type is one of data
 abbrev pub abbreviated_as : OccType → Judged → Finding
 abbreviated_as of x = if is_data of then and_then (x.under of) (as_type of) else for_no_data x
-
--- what is known of a value of which the type was wanted
-abbrev pub Agrees : OccType → Kind → Type 0
-Agrees of k.Faulty = Unit {0}
-Agrees of (k.Untyped f) = Unit {0}
-Agrees of (k.Known x) = fits of x.of ≡ true

@@ -1,15 +1,13 @@
 //! The value of a `VAL` form, with a written type or without one: T2 where it is no data. `docs/LANGUAGE.md, What lines
 //! ask of operands`.
-ghost use Rattle.std.specs.Prelude.{◌≡◌, ◌++◌, IfOk, OnOk, true};
-ghost use Rattle.occ_typing_rules.specs.Abbreviating.{Agrees, abbreviated as spec_abbreviated, abbreviated_as as spec_abbreviated_as, as_type as spec_as_type, for_no_data as spec_for_no_data, holding as spec_holding};
-ghost use Rattle.occ_typing_tables.specs.Merging.{filled as spec_filled};
+ghost use Rattle.std.specs.Prelude.{◌≡◌, ◌++◌, IfOk, OnOk};
+ghost use Rattle.occ_typing_rules.specs.Abbreviating.{abbreviated as spec_abbreviated, abbreviated_as as spec_abbreviated_as, as_type as spec_as_type, for_no_data as spec_for_no_data, holding as spec_holding};
 ghost use Rattle.occ_typing_tables.specs.Terms.{judged};
-ghost use Rattle.occ_types.specs.Fits.{fits};
 
 use occ_base::{Code, Fault, Items, Shared, report};
 use occ_types::{OccType, is_data};
 use occ_typing_operands::{Kind, known_as, mismatched};
-use occ_typing_tables::{Term, alone, merged, under};
+use occ_typing_tables::{Term, alone, filled, under};
 use std::alloc::{AllocError, Global};
 
 /// A settled value, which has to be data.
@@ -42,28 +40,12 @@ pub fn abbreviated(
     holding(kind, faults)
 }
 
-/// A type, with the numbers of components that it leaves unknown as one has them that agrees with it.
-fn filled(
-    alloc: Global,
-    of: &Shared<OccType>,
-    other: &Shared<OccType>,
-) -> Result<Shared<OccType>, AllocError>
-    requires { fits of.now other.now ≡ true }
-    ensures { IfOk result (λ found. found ≡ spec_filled of.now other.now) }
-{
-    match merged(alloc, of, other)? {
-        Some(found) => Ok(found),
-        None => of.share(),
-    }
-}
-
 /// What is known of a name of this type, for a value of which it was wanted.
-fn as_type(alloc: Global, of: &Shared<OccType>, kind: &Kind) -> Result<Kind, AllocError>
-    requires { Agrees of.now kind.now }
+pub fn as_type(alloc: Global, of: &Shared<OccType>, kind: &Kind) -> Result<Kind, AllocError>
     ensures { IfOk result (λ named. named ≡ (spec_as_type of.now kind.now).kind) }
 {
     match kind {
-        Kind::Known(found) => known_as(&filled(alloc, of, &found.of)?, found.value),
+        Kind::Known(found) => known_as(&filled(alloc, of, found.of.get())?, found.value),
         _ => Ok(Kind::Faulty),
     }
 }

@@ -21,7 +21,7 @@ pub mod rule_rows;
 mod sharing;
 pub mod tree_rows;
 
-pub use abbreviate::{abbreviated, abbreviated_as};
+pub use abbreviate::{abbreviated, abbreviated_as, as_type};
 pub use assign::{assigned, target};
 pub use choose::{condition, options, selector};
 pub use count::of_another_number;

@@ -1,10 +1,14 @@
 //! Names for elements, `n IS el:` and `t n IS el:`. `docs/LANGUAGE.md, Abbreviations of elements, RETYPES and RESHAPES`.
-ghost use Rattle.std.specs.Prelude.{◌≡◌, ◌++◌, IfOk, OnOk};
+ghost use Rattle.std.specs.Prelude.{◌≡◌, ◌++◌, IfOk, IsTrue, OnOk, Some};
 ghost use Rattle.occ_expr_operations.specs.Views.{element_view};
 ghost use Rattle.occ_scope.specs.Visible.{visible};
 ghost use Rattle.occ_typing_specifications.specs.Abbreviating.{abbreviation as spec_abbreviation, agreed as spec_agreed, element_name as spec_element_name, element_reported as spec_element_reported, element_with_type as spec_element_with_type, named as spec_named, of_type as spec_of_type};
 ghost use Rattle.occ_expr.specs.Targets.{root as spec_root};
+ghost use Rattle.occ_types.specs.declared.types.OccType.{OccType};
+ghost use Rattle.occ_typing_operands.specs.declared.kind.Kind.TheVariants as k;
+ghost use Rattle.occ_typing_operands.specs.declared.kind.Known.{Known};
 
+use super::comparing::element_is_of;
 use super::valuing::kind_unless_reported;
 use occ_base::{Code, Fault, Items, Name, Shared, report};
 use occ_expr::{root, target_of, type_form};
@@ -14,7 +18,7 @@ use occ_scope::{Access, Meaning, Scope, ScopeEntry, Whole, one_entry};
 use occ_types::{MaybeValue, OccType};
 use occ_typing_operands::{Kind, known};
 use occ_typing_rules::TypedElement;
-use occ_typing_tables::merged;
+use occ_typing_tables::{filled, merged};
 use std::alloc::{AllocError, Global};
 
 /// What is known of a name of the type that agrees with both, if they agree: else T2 is reported.
@@ -29,18 +33,26 @@ fn agreed(of: Option<Shared<OccType>>, faults: &mut Items<Fault>) -> Result<Kind
     known(&of, None)
 }
 
-/// What is known of a name of this type, if the type is known, for an element of which this is known.
+/// What is known of a name of this type, if the type is known, for an element of which this is known, and perhaps that it is of
+/// the type.
 fn of_type(
     alloc: Global,
     to: &Option<Shared<OccType>>,
     kind: &Kind,
+    is_known: bool,
     faults: &mut Items<Fault>,
 ) -> Result<Kind, AllocError>
+    requires { (of : OccType) (x : Known) → IsTrue is_known → to.now ≡ Some of → kind.now ≡ k.Known x → x.of ≡ of }
     ensures kind { IfOk result (λ named. named ≡ (spec_of_type to.now kind.now).kind) }
     ensures faults { OnOk result (faults.new ≡ faults.old ++ (spec_of_type to.now kind.now).faults) }
 {
     match (to, kind) {
-        (Some(to), Kind::Known(found)) => agreed(merged(alloc, to, &found.of)?, faults),
+        (Some(to), Kind::Known(found)) => {
+            if is_known {
+                return known(&filled(alloc, to, found.of.get())?, None);
+            }
+            agreed(merged(alloc, to, &found.of)?, faults)
+        }
         _ => Ok(Kind::Faulty),
     }
 }
@@ -60,7 +72,8 @@ fn element_with_type(
 {
     let to = type_form(alloc, of, Opening::Allowed, scope, faults)?;
     let read = target_of(alloc, element, scope, faults)?;
-    let kind = of_type(alloc, &to, &read.kind, faults)?;
+    let is_known = element_is_of(of, element, scope);
+    let kind = of_type(alloc, &to, &read.kind, is_known, faults)?;
     Ok(ElementReading {
         kind,
         tree: read.tree,

@@ -3,6 +3,7 @@
 #![tactic(auto)]
 
 mod abbreviating;
+mod comparing;
 mod declaring;
 mod defining;
 mod detail;
@@ -25,6 +26,7 @@ mod tagging;
 mod valuing;
 
 pub use abbreviating::{ElementLine, abbreviation};
+pub use comparing::{compare_element, compare_value};
 pub use declaring::declaration;
 pub use defining::data_type;
 pub use field::fields;

@@ -28,7 +28,8 @@ use Rattle.occ_expr_operations.specs.Views.{expr_views, item_opens}
 use Rattle.occ_expr.specs.Targets.{target_of}
 use Rattle.occ_expr.proofs.Alone.{IsOf}
 use Rattle.occ_expr.proofs.Passing.{behind, same_kind}
-use Rattle.occ_typing_statements.proofs.Named.{alone, target_type, value_fits}
+use Rattle.occ_expr.proofs.Named.{target_type}
+use Rattle.occ_typing_statements.proofs.Named.{alone, value_fits}
 
 type_in : Kind → Option OccType
 type_in k.Faulty = None

@@ -1,5 +1,5 @@
 -- A name alone is a value for another of the same type: nothing is reported of it.
-use Rattle.std.proofs.Common.{◌≡◌, ◌∙◌, ◌++◌, ℕ, Bool, true, List, [], ◌∷◌, Option, Some, None, if◌then◌else◌, refl, ap, sym}
+use Rattle.std.proofs.Common.{◌≡◌, ◌∙◌, ◌++◌, ℕ, Bool, true, List, [], ◌∷◌, Some, if◌then◌else◌, refl, ap, sym}
 use Rattle.occ_base.specs.declared.code.Code.TheVariants as code
 use Rattle.occ_base.specs.Reporting.{nameless}
 use Rattle.occ_base.specs.declared.fault.Fault.{Fault}
@@ -11,12 +11,7 @@ use Rattle.occ_forms_expressions.specs.declared.tree.Expr.{Expr}
 use Rattle.occ_forms_expressions.specs.declared.tree.Expr.TheVariants as exprs
 use Rattle.occ_forms_expressions.specs.declared.tree.Operand.TheVariants as operands
 use Rattle.occ_scope.specs.Elements.{type_of}
-use Rattle.occ_scope.specs.Lookup.{element}
 use Rattle.occ_scope.specs.Visible.{visible}
-use Rattle.occ_scope.specs.declared.meaning.Access.{Access}
-use Rattle.occ_scope.specs.declared.meaning.Access.TheVariants as access
-use Rattle.occ_scope.specs.declared.meaning.Meaning.{Meaning}
-use Rattle.occ_scope.specs.declared.meaning.Meaning.TheVariants as m
 use Rattle.occ_scope.specs.declared.scope.Scope.{Scope}
 use Rattle.occ_typing_operands.specs.Wanting.{wanted}
 use Rattle.occ_typing_operands.specs.declared.kind.Kind.{Kind}
@@ -25,46 +20,12 @@ use Rattle.occ_typing_operands.specs.declared.kind.Known.{Known}
 use Rattle.occ_typing_tables.specs.Terms.{Judged, judged, judged_all}
 use Rattle.occ_typing_tables.specs.declared.term.Term.TheVariants as v
 use Rattle.occ_typing_tables.proofs.Judging.{judged_single}
-use Rattle.occ_typing_rules.specs.Assigning.{assigned, reached as written, value_for}
-use Rattle.occ_expr_operations.specs.Parts.{Said, kind_of_whole, named_element, terms, whole_element}
-use Rattle.occ_expr_operations.proofs.Views.{element_named_reported}
-use Rattle.occ_expr.specs.Targets.{reached, root, target_of}
-use Rattle.occ_expr.proofs.Roots.{root_named}
+use Rattle.occ_typing_rules.specs.Assigning.{assigned, value_for}
+use Rattle.occ_expr_operations.specs.Parts.{Said, terms, whole_element}
+use Rattle.occ_expr.specs.Targets.{target_of}
 use Rattle.occ_typing_statements.specs.Statements.{said}
 use Rattle.occ_expr.proofs.Alone.{IsOf, said_alone, value_kind, wanted_itself}
-
--- ---- a target
-
-written_kind : (a : Access) (name : List ℕ) (w x : Known) → (written a name w).kind ≡ k.Known x → Some w.of ≡ Some x.of
-written_kind access.Variable name w x is = one (k.Known w) (k.Known x) is where
-  type_in : Kind → Option OccType
-  type_in k.Faulty = None
-  type_in (k.Untyped f) = None
-  type_in (k.Known y) = Some y.of
-
-  one : (a b : Kind) → a ≡ b → type_in a ≡ type_in b
-  one a b e = ap type_in e
-written_kind access.Formal name w x is = absurd cc
-written_kind access.Value name w x is = absurd cc
-
-reached_kind : (name : List ℕ) (meaning : Option Meaning) (x : Known) → (reached meaning (kind_of_whole (element name meaning).found)).kind ≡ k.Known x → type_of meaning ≡ Some x.of
-reached_kind name None x is = absurd cc
-reached_kind name (Some m.Faulty) x is = absurd cc
-reached_kind name (Some (m.Type of)) x is = absurd cc
-reached_kind name (Some (m.Protocol p)) x is = absurd cc
-reached_kind name (Some (m.Procedure formals)) x is = absurd cc
-reached_kind name (Some (m.Function formals results)) x is = absurd cc
-reached_kind name (Some (m.Element whole)) x is = written_kind whole.access whole.root (record { of = whole.of; value = whole.value }) x is
-
--- a name that is known as a target has the type that is known of it
-pub target_type : (s : Scope) (name : List ℕ) (x : Known) → (target_of s (elements.Named name [])).kind ≡ k.Known x → type_of (visible s name) ≡ Some x.of
-unfolding target_of named_element
-target_type s name x is =
-    reached_kind name (visible s name) x
-    (ap (λ (n : List ℕ). (reached (visible s n) (kind_of_whole (element name (visible s name)).found)).kind) (sym (root_named name []))
-    ∙ ap (λ y. (reached (visible s (root (elements.Named name []))) y.kind).kind) (sym (element_named_reported name [] s)) ∙ is)
-
--- ---- the value for the target
+use Rattle.occ_expr.proofs.Named.{target_type}
 
 pub value_fits : (of : OccType) (kind : Kind) → is_data of ≡ true → IsOf of kind → value_for of (judged (v.Single kind)) ≡ []
 value_fits of kind holds is =

@@ -25,7 +25,7 @@ use Rattle.occ_expr.specs.Targets.{target_of}
 use Rattle.occ_typing_statements.specs.Actuals.{any_carried, is_carried, taken, takes}
 use Rattle.occ_expr.proofs.Alone.{IsOf, said_alone, value_kind, wanted_itself}
 use Rattle.occ_expr.proofs.Fitting.{fits_itself}
-use Rattle.occ_typing_statements.proofs.Named.{target_type}
+use Rattle.occ_expr.proofs.Named.{target_type}
 
 or_true : (a b : Bool) → b ≡ true → (a || b) ≡ true
 or_true true b e = refl

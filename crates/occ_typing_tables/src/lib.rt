@@ -20,7 +20,7 @@ pub use decorate::{decorated, decorated_table};
 pub use dimension::size;
 pub use hiding::{hidden, report_hidden};
 pub use measure::{Limit, most, sized};
-pub use merge::merged;
+pub use merge::{filled, merged};
 pub use occ_types::is_too_large;
 pub use placing::{any_has_fault, has_fault};
 pub use selection::{BoundTerms, segment};

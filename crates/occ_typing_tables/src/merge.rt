@@ -16,13 +16,17 @@ fn known_count(a: Option<u32>, b: Option<u32>) -> Option<u32>
 }
 
 /// The first type, with the numbers of components that it leaves unknown as the other has them.
-fn filled(alloc: Global, a: &Shared<OccType>, b: &OccType) -> Result<Shared<OccType>, AllocError>
+fn filled_array(
+    alloc: Global,
+    a: &Shared<OccType>,
+    b: &OccType,
+) -> Result<Shared<OccType>, AllocError>
     ensures { IfOk result (λ of. of ≡ spec_filled a.now b.now) }
 {
     match a.get() {
         OccType::Array(count, inner) => match array_of(b) {
             Some((other, of)) => {
-                let of = filled(alloc, inner, of.get())?;
+                let of = filled_array(alloc, inner, of.get())?;
                 Shared::new(alloc, OccType::Array(known_count(*count, other), of))
             }
             None => a.share(),
@@ -44,6 +48,20 @@ fn is_closed(of: &OccType) -> bool
     }
 }
 
+/// The same, where a type that leaves nothing unknown is taken as it is.
+pub fn filled(
+    alloc: Global,
+    a: &Shared<OccType>,
+    b: &OccType,
+) -> Result<Shared<OccType>, AllocError>
+    ensures { IfOk result (λ of. of ≡ spec_filled a.now b.now) }
+{
+    if is_closed(a.get()) {
+        return a.share();
+    }
+    filled_array(alloc, a, b)
+}
+
 /// One type that agrees with both, if they agree.
 pub fn merged(
     alloc: Global,
@@ -54,9 +72,6 @@ pub fn merged(
 {
     if !fits(a.get(), b.get()) {
         return Ok(None);
-    }
-    if is_closed(a.get()) {
-        return Ok(Some(a.share()?));
     }
     Ok(Some(filled(alloc, a, b.get())?))
 }

@@ -2,14 +2,14 @@ use Rattle.std.proofs.Common.{arith}
 use Rattle.std.proofs.lemmas.Grind.{common_steps}
 use Rattle.occ_typing_lines.proofs.specifying.one_line.Goals as goal
 
-pub returns-in-Abbreviation-clause-faults : goal.returns-in-Abbreviation-clause-faults
-returns-in-Abbreviation-clause-faults c = grind (arith, common_steps)
+pub returns-in_ok-compare_element-in-Abbreviation-clause-faults : goal.returns-in_ok-compare_element-in-Abbreviation-clause-faults
+returns-in_ok-compare_element-in-Abbreviation-clause-faults c = grind (arith, common_steps)
 
-pub returns-in-Abbreviation-clause-line : goal.returns-in-Abbreviation-clause-line
-returns-in-Abbreviation-clause-line c = grind (arith, common_steps)
+pub returns-in_ok-compare_element-in-Abbreviation-clause-line : goal.returns-in_ok-compare_element-in-Abbreviation-clause-line
+returns-in_ok-compare_element-in-Abbreviation-clause-line c = grind (arith, common_steps)
 
-pub returns-in-Abbreviation-clause-scope : goal.returns-in-Abbreviation-clause-scope
-returns-in-Abbreviation-clause-scope c = grind (arith, common_steps)
+pub returns-in_ok-compare_element-in-Abbreviation-clause-scope : goal.returns-in_ok-compare_element-in-Abbreviation-clause-scope
+returns-in_ok-compare_element-in-Abbreviation-clause-scope c = grind (arith, common_steps)
 
 pub returns-in-DataType-clause-faults : goal.returns-in-DataType-clause-faults
 returns-in-DataType-clause-faults c = grind (arith, common_steps)
@@ -65,11 +65,29 @@ returns-in-RetypedValue-clause-line c = grind (arith, common_steps)
 pub returns-in-RetypedValue-clause-scope : goal.returns-in-RetypedValue-clause-scope
 returns-in-RetypedValue-clause-scope c = grind (arith, common_steps)
 
-pub returns-in-Value-clause-faults : goal.returns-in-Value-clause-faults
-returns-in-Value-clause-faults c = grind (arith, common_steps)
+pub returns-in_ok-compare_value-in-Value-clause-faults : goal.returns-in_ok-compare_value-in-Value-clause-faults
+returns-in_ok-compare_value-in-Value-clause-faults c = grind (arith, common_steps)
 
-pub returns-in-Value-clause-line : goal.returns-in-Value-clause-line
-returns-in-Value-clause-line c = grind (arith, common_steps)
+pub returns-in_ok-compare_value-in-Value-clause-line : goal.returns-in_ok-compare_value-in-Value-clause-line
+returns-in_ok-compare_value-in-Value-clause-line c = grind (arith, common_steps)
 
-pub returns-in-Value-clause-scope : goal.returns-in-Value-clause-scope
-returns-in-Value-clause-scope c = grind (arith, common_steps)
+pub returns-in_ok-compare_value-in-Value-clause-scope : goal.returns-in_ok-compare_value-in-Value-clause-scope
+returns-in_ok-compare_value-in-Value-clause-scope c = grind (arith, common_steps)
+
+pub returns-in_err-compare_element-in-Abbreviation-clause-faults : goal.returns-in_err-compare_element-in-Abbreviation-clause-faults
+returns-in_err-compare_element-in-Abbreviation-clause-faults c = grind (arith, common_steps)
+
+pub returns-in_err-compare_element-in-Abbreviation-clause-line : goal.returns-in_err-compare_element-in-Abbreviation-clause-line
+returns-in_err-compare_element-in-Abbreviation-clause-line c = grind (arith, common_steps)
+
+pub returns-in_err-compare_element-in-Abbreviation-clause-scope : goal.returns-in_err-compare_element-in-Abbreviation-clause-scope
+returns-in_err-compare_element-in-Abbreviation-clause-scope c = grind (arith, common_steps)
+
+pub returns-in_err-compare_value-in-Value-clause-faults : goal.returns-in_err-compare_value-in-Value-clause-faults
+returns-in_err-compare_value-in-Value-clause-faults c = grind (arith, common_steps)
+
+pub returns-in_err-compare_value-in-Value-clause-line : goal.returns-in_err-compare_value-in-Value-clause-line
+returns-in_err-compare_value-in-Value-clause-line c = grind (arith, common_steps)
+
+pub returns-in_err-compare_value-in-Value-clause-scope : goal.returns-in_err-compare_value-in-Value-clause-scope
+returns-in_err-compare_value-in-Value-clause-scope c = grind (arith, common_steps)
