@@ -1,9 +1,7 @@
--- The type of what a name stands for, if that is an element, and those of what stands at its places: of the formals of a
--- procedure, of those of a function and its results, and of the components of an array.
+-- The type of what a name stands for, if that is an element, of the formals of a procedure, and of those of a function and
+-- its results. A data type has itself at each place.
 use Rattle.std.specs.Prelude.{ℕ, List, [], ◌∷◌, ◌++◌, Option, Some, None}
 use Rattle.std.specs.List.{slice_get}
-use Rattle.occ_types.specs.Fits.{unnamed}
-use Rattle.occ_types.specs.View.{as_array}
 use Rattle.occ_types.specs.declared.interface.Formal.{Formal}
 use Rattle.occ_types.specs.declared.types.OccType.{OccType}
 use Rattle.occ_scope.specs.declared.meaning.Meaning.{Meaning}
@@ -27,13 +25,8 @@ abbrev pub formal_types : List Formal → List OccType
 formal_types [] = []
 formal_types (formal ∷ formals) = formal.of ∷ formal_types formals
 
--- the type of the components of an array
-abbrev pub component_type : Option (Option ℕ × OccType) → Option OccType
-component_type None = None
-component_type (Some parts) = Some parts.1
-
 -- the type of a formal of what is meant, if that is a procedure or a function with so many; the results of a function stand
--- after its formals; a data type is itself at each place, and at each place of an array is one of its components
+-- after its formals; a data type is itself at each place
 abbrev pub formal_of : Option Meaning → ℕ → Option OccType
 formal_of None k = None
 formal_of (Some m.Faulty) k = None
@@ -41,7 +34,7 @@ formal_of (Some (m.Type of)) k = of
 formal_of (Some (m.Protocol p)) k = None
 formal_of (Some (m.Procedure formals)) k = formal_type (slice_get formals k)
 formal_of (Some (m.Function formals results)) k = slice_get (formal_types formals ++ results) k
-formal_of (Some (m.Element whole)) k = component_type (as_array (unnamed whole.of))
+formal_of (Some (m.Element whole)) k = None
 
 -- by the numbers of their specifications
 abbrev pub type_at : List Meaning → ℕ → Option OccType

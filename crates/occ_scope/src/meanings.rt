@@ -5,14 +5,12 @@
 ghost use Rattle.std.specs.Prelude.{◌≡◌, ◌⊎◌, ◌≤◌, ◌-◌, ◌++◌, ◌∷◌, [], IfOk, IsTrue, MatchOption, None, OnErr, OnOk, Some, length, take};
 ghost use Rattle.std.specs.Option.{option_copied};
 ghost use Rattle.std.specs.List.{slice_get};
-ghost use Rattle.occ_types.specs.Fits.{unnamed as spec_unnamed};
-ghost use Rattle.occ_types.specs.View.{as_array};
-ghost use Rattle.occ_scope.specs.Elements.{component_type, formal_at as spec_formal_at, formal_types, type_at as spec_type_at};
+ghost use Rattle.occ_scope.specs.Elements.{formal_at as spec_formal_at, formal_types, type_at as spec_type_at};
 
 use super::meaning::Meaning;
 use super::scopes::SpecId;
 use occ_base::{Items, Shared};
-use occ_types::{Formal, OccType, array_of, same_type, unnamed};
+use occ_types::{Formal, OccType, same_type};
 use std::alloc::{AllocError, Global};
 use std::marker::Model;
 
@@ -64,14 +62,6 @@ fn in_function<'a>(
         Some(formal) => Some(formal.of.get()),
         None => Some(results.get(place - formals.len())?.get()),
     }
-}
-
-/// The type of the components of an array, perhaps under names.
-fn component_of(of: &OccType) -> Option<&OccType>
-    ensures { MatchOption result (component_type (as_array (spec_unnamed of.now)) ≡ None) (λ component. component_type (as_array (spec_unnamed of.now)) ≡ Some component.now) }
-{
-    let (_, component) = array_of(unnamed(of))?;
-    Some(component.get())
 }
 
 impl Meanings {
@@ -129,8 +119,7 @@ impl Meanings {
     }
 
     /// The type of a formal of the procedure or the function that the specification of this number names. The results of a
-    /// function stand after its formals. A data type is itself at each place, and at each place of an array is one of its
-    /// components.
+    /// function stand after its formals. A data type is itself at each place.
     pub(crate) fn formal_at(&self, place: SpecId, formal: usize) -> Option<&OccType>
         ensures { MatchOption result (spec_formal_at self.now place formal ≡ None) (λ of. spec_formal_at self.now place formal ≡ Some of.now) }
     {
@@ -138,7 +127,6 @@ impl Meanings {
             Meaning::Type(Some(of)) => Some(of.of().get()),
             Meaning::Procedure(formals) => Some(formals.get().get(formal)?.of.get()),
             Meaning::Function(formals, results) => { in_function(formals.get(), results, formal) }
-            Meaning::Element(whole) => component_of(whole.of.get()),
             _ => None,
         }
     }
