@@ -38,8 +38,8 @@ use occ_project_units::laws::{
 };
 use std::alloc::{AllocError, Global};
 
-/// Where a new file has more users than these, most units are concerned, and all flags are set anew.
-const FEW: usize = 64;
+/// Where a new unit has more users than these, all flags are set anew.
+const FEW_USERS: usize = 64;
 
 /// An edit of a file changes neither whether a unit is done nor what a verified outcome of it looked at, if the file is a read neither
 /// of the unit nor of a unit that it reaches.
@@ -274,7 +274,7 @@ fn renew_new(
 fn is_used_by_few(graph: &Graph, name: FileName, index: usize) -> bool
     requires { index < length graph.now }
 {
-    name.is_unit() && graph.users(index).count() <= FEW
+    name.is_unit() && graph.users(index).count() <= FEW_USERS
 }
 
 /// The files that the edit may concern that put the one at an index: it, its readers, and all that reach one of these.
@@ -295,8 +295,8 @@ fn touched_at(
     touched_by(alloc, graph, flags, true, index, readers.as_slice())
 }
 
-/// Sets the flags of all units that are done, where no flag is wrong or missing, and no outcome wrongly verified, but of units that an
-/// edit of the file of that name concerns, which are marked. It takes no memory.
+/// Sets the flags of all done units after the edit of a file. Only of what the edit concerns, which is marked, flags and verified
+/// outcomes may be wrong before. It takes no memory.
 fn settle_touched(
     graph: &Graph,
     cached: &Cached,
@@ -343,9 +343,8 @@ fn settle_anew(graph: &Graph, cached: &Cached, flags: &mut Flags, verified: &mut
     settle(graph, cached, flags, verified);
 }
 
-/// Sets the flags of all units that are done, where no flag is wrong or missing, and no outcome wrongly verified, but of units that an
-/// edit of the file of that name concerns. All flags are set anew where these are many or no outcome is cached, or where memory is
-/// refused.
+/// The same, where nothing is marked yet. All flags are set anew if the file is an include or has many users. So they are where no
+/// outcome is cached, or memory for marks is refused.
 fn settle_others(
     alloc: Global,
     graph: &mut Graph,
@@ -385,8 +384,7 @@ fn spelled_law(source: &Option<Shared<Source>>)
     }
 }
 
-/// The graph, the flags and what is verified after the edit of a file that was not there, and that others may look for. What the edit
-/// does not concern stays, but for its indices.
+/// The graph, the flags and what is verified after the edit of a file that was not there, and that others may look for.
 fn renew_used(
     alloc: Global,
     graph: &mut Graph,

@@ -9,7 +9,7 @@ use Rattle.occ_board.specs.inside.Verified.{looked}
 use Rattle.occ_check.specs.Input.{Input}
 use Rattle.occ_project.specs.declared.reads.Read.{Read}
 
--- the file has another name, and if it is a unit, the file of that name is a read neither of it nor of a unit that it reaches
+-- the file has another name; if it is a unit, neither it nor a unit that it reaches reads the file of that name
 pub record IsUntouched (files : List Read) (name u : List ℕ) : Type 0 where
   pub other : bytes_eq name u ≡ false
   pub apart : is_unit u ≡ true → IsApart files name u
