@@ -1,19 +1,18 @@
 -- An edit of a file after which units stand to each other as before: of those that do not read it, and rest on none that does by units
 -- that are done, those are done that were.
-use Rattle.std.proofs.Common.{◌≡◌, ◌∙◌, ◌&&◌, ◌||◌, ◌<◌, ℕ, Bool, true, false, cond, not, List, length, get_or, Option, Some, None, refl, sym, ap, subst}
+use Rattle.std.proofs.Common.{◌≡◌, ◌∙◌, ◌&&◌, ◌<◌, ℕ, Bool, true, false, cond, not, List, length, get_or, Option, Some, None, refl, sym, ap, subst}
 use Rattle.std.specs.List.{filter, list_all, slice_get}
 use Rattle.std.proofs.lemmas.Slice.Eq.{bytes_eq-Decides}
 use Rattle.std.specs.Str.{bytes_eq}
 use Rattle.occ_board.proofs.Apart.{among_all, same_filter}
 use Rattle.occ_board.proofs.Heights.{along_rests}
-use Rattle.occ_board.proofs.Indices.{at_index, filed, name_there, named, open_index, placed}
+use Rattle.occ_board.proofs.Indices.{at_index, filed, named, open_index, placed}
 use Rattle.occ_board.proofs.Looked.{false_by, looked_still, one_index, same_names, same_standing, unread_at}
 use Rattle.occ_board.proofs.Marked.{left_by}
-use Rattle.occ_board.proofs.Settled.{flag_at, is_step, no_flag, rests_done, step_cached, step_done, step_open, step_rests}
+use Rattle.occ_board.proofs.Settled.{flag_at, is_step, no_flag, rests_done, step_cached, step_open, step_rests}
 use Rattle.occ_board.proofs.Spread.{placed_there}
-use Rattle.occ_board.proofs.Truths.{all_among, all_by, both_true, left_true, right_true}
+use Rattle.occ_board.proofs.Truths.{all_by, both_true, left_true, right_true}
 use Rattle.occ_board.specs.Done.{done, done_step, is_cached}
-use Rattle.occ_board.specs.Journal.{is_open}
 use Rattle.occ_board.specs.inside.Flagged.{AreFlags, IsFullAt, IsSound, flag_of}
 use Rattle.occ_board.specs.inside.Ready.{is_ready, is_rested}
 use Rattle.occ_board.specs.inside.Touched.{IsClosed}

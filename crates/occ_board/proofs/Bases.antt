@@ -1,7 +1,7 @@
 -- What edits make of a base is a base, and so what holds of all edits from nothing holds of a journal over it.
-use Rattle.std.proofs.Common.{◌≡◌, ◌∙◌, ◌++◌, ◌+◌, ◌<◌, ◌≤◌, ℕ, suc, List, [], ◌∷◌, length, length-append, Option, Some, None, refl, sym, ap, subst, arith, ◌==◌}
+use Rattle.std.proofs.Common.{◌≡◌, ◌∙◌, ◌++◌, ◌+◌, ℕ, suc, List, [], ◌∷◌, length, length-append, Option, Some, None, refl, sym, ap, subst, arith}
 use Rattle.occ_board.proofs.Resting.{none_is_project, replayed}
-use Rattle.occ_board.specs.Journal.{IsBase, base_after, edited, last_number, nothing, replay, replay_from}
+use Rattle.occ_board.specs.Journal.{IsBase, base_after, edited, nothing, replay, replay_from}
 use Rattle.occ_board.specs.Machine.{Event, State, after, after_edit, edit_answer}
 use Rattle.occ_board.specs.declared.base.Base.{Base}
 use Rattle.occ_board.specs.declared.entry.Edit.{Edit}

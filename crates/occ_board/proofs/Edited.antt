@@ -1,5 +1,5 @@
 -- What an edit leaves.
-use Rattle.std.proofs.Common.{◌≡◌, ◌↔◌, ◌∙◌, ◌<◌, ◌+◌, true, cond, ℕ, List, length, Option, Some, None, refl, sym, ap, subst}
+use Rattle.std.proofs.Common.{◌≡◌, ◌↔◌, ◌∙◌, ◌<◌, ◌+◌, true, cond, ℕ, List, Option, Some, None, refl, sym, ap, subst}
 use Rattle.std.specs.Str.{bytes_eq}
 use Rattle.occ_board.proofs.Apart.{same_done_there, same_input_there}
 use Rattle.occ_board.proofs.Edits.{edited_is, replay_more}

@@ -17,7 +17,6 @@ use Rattle.occ_board.specs.inside.Ready.{IsAcceptable, is_rested}
 use Rattle.occ_check.specs.Input.{Input, IsInput, expansion_in}
 use Rattle.occ_check.specs.declared.used.UsedUnit.{UsedUnit}
 use Rattle.occ_forms.specs.Prepared.{Prepared}
-use Rattle.occ_forms.specs.declared.source.SourceLine.{SourceLine}
 use Rattle.occ_project.specs.Entries.{is_among}
 use Rattle.occ_project.specs.Expansion.{Expansion, expansion}
 use Rattle.occ_project.specs.Reads.{member, open_lines, open_source}

@@ -1,6 +1,5 @@
 -- Reads of files with the same lines have the same expansion.
-use Rattle.std.proofs.Common.{◌≡◌, ◌∙◌, ◌<◌, ℕ, zero, suc, Bool, true, false, cond, List, [], ◌∷◌, Option, Some, None, length, get_or, refl, sym, ap, arith}
-use Rattle.std.specs.List.{find}
+use Rattle.std.proofs.Common.{◌≡◌, ◌∙◌, ◌<◌, ℕ, suc, Bool, true, false, cond, List, [], ◌∷◌, Option, Some, None, length, get_or, refl, sym, ap, arith}
 use Rattle.std.specs.Option.{option_and_then, option_map}
 use Rattle.std.specs.Str.{bytes_eq}
 use Rattle.occ_board.specs.inside.Likeness.{AreAlikeReads, IsAlikeRead}
@@ -8,9 +7,9 @@ use Rattle.occ_forms.specs.Prepared.{Prepared}
 use Rattle.occ_forms.specs.declared.source.SourceLine.{SourceLine}
 use Rattle.occ_lines.specs.Listing.{listed}
 use Rattle.occ_project.specs.Expansion.{expansion}
-use Rattle.occ_project.specs.Reads.{is_named, lines_in, listed_in, member, open_lines}
+use Rattle.occ_project.specs.Reads.{member}
 use Rattle.occ_project.specs.declared.reads.Read.{Read}
-use Rattle.occ_project_units.proofs.Looks.{IsAlike, looks_alike, open_listed}
+use Rattle.occ_project_units.proofs.Looks.{IsAlike, looks_alike}
 
 abbrev listed_of : Option Prepared → Option (Option (List (List ℕ)))
 listed_of o = option_map listed (option_map (λ (s : Prepared). s.text) o)

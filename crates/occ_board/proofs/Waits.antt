@@ -1,13 +1,12 @@
 -- Places before which no unit is ready, as far as flags report.
-use Rattle.std.proofs.Common.{◌≡◌, ◌∙◌, ◌<◌, ◌≤◌, ◌+◌, ◌&&◌, ◌||◌, ◌⊎◌, ℕ, suc, Bool, true, false, not, List, [], ◌∷◌, drop, length, get_or, Some, refl, sym, ap, subst, arith, inl, inr}
+use Rattle.std.proofs.Common.{◌≡◌, ◌∙◌, ◌<◌, ◌≤◌, ◌+◌, ◌&&◌, ◌⊎◌, ℕ, suc, Bool, true, false, not, List, [], ◌∷◌, length, get_or, Some, refl, sym, ap, subst, arith, inl, inr}
 use Rattle.std.specs.BTreeSet.{BTreeSet, contains}
 use Rattle.std.specs.List.{list_all, slice_get}
 use Rattle.std.specs.Ordering.{nat_cmp}
-use Rattle.std.specs.Prelude.{◌==◌, slice_set}
-use Rattle.std.proofs.lemmas.Bool.{eqb-true}
+use Rattle.std.specs.Prelude.{slice_set}
 use Rattle.std.specs.Str.{bytes_eq}
 use Rattle.std.proofs.lemmas.Slice.Eq.{bytes_eq-Decides}
-use Rattle.occ_board.proofs.Marked.{marked_there, none_following}
+use Rattle.occ_board.proofs.Marked.{marked_there}
 use Rattle.occ_board.proofs.Indices.{within}
 use Rattle.occ_board.proofs.Settled.{flag_at, last_or_less}
 use Rattle.occ_board.proofs.Spread.{placed_there, rests_same, set_stays, some_is}

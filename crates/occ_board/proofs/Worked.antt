@@ -1,6 +1,5 @@
 -- What a take and a finish leave where nothing happens between them.
-use Rattle.std.proofs.Common.{◌≡◌, ◌∙◌, ◌++◌, Bool, true, false, not, cond, List, [], ◌∷◌, Option, Some, None, refl, sym, ap}
-use Rattle.std.specs.List.{filter}
+use Rattle.std.proofs.Common.{◌≡◌, ◌∙◌, ◌++◌, Bool, not, cond, List, [], ◌∷◌, Option, Some, refl, ap}
 use Rattle.occ_board.proofs.Trees.{inputs_are_one}
 use Rattle.occ_board.specs.Machine.{Event, State, after, cached_after, finish_answer, handed_out, take_answer, unhanded, with_cached}
 use Rattle.occ_board.specs.Same.{same_input}

@@ -1,4 +1,4 @@
-use Rattle.std.proofs.Common.{◌≡◌, ◌∙◌, List, rules, subst, sym, ℕ}
+use Rattle.std.proofs.Common.{◌≡◌, rules}
 use Rattle.occ_board.proofs.Likeness.{same_expansion}
 use Rattle.occ_board.proofs.comparing.is_alike_job.Goals as goal
 use Rattle.occ_board.proofs.comparing.is_alike_job.Goals.{else-eq, then-eq}

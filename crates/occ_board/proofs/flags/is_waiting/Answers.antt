@@ -1,4 +1,4 @@
-use Rattle.std.proofs.Common.{rules, ap, sym, subst, ◌∙◌, ◌≡◌, List, ℕ, false, refl}
+use Rattle.std.proofs.Common.{rules, ap, sym, subst, ◌∙◌, List, ℕ}
 use Rattle.std.specs.List.{list_all}
 use Rattle.occ_board.proofs.Rests.{rests_flagged}
 use Rattle.occ_board.proofs.flags.is_waiting.Goals as goal

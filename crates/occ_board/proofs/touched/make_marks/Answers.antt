@@ -1,4 +1,4 @@
-use Rattle.std.proofs.Common.{◌≡◌, ◌∙◌, ◌+◌, List, ap, arith, drop, false, get_or, length, ℕ, sym, true}
+use Rattle.std.proofs.Common.{◌≡◌, ◌∙◌, List, ap, arith, false, get_or, length, ℕ, sym, true}
 use Rattle.std.proofs.lemmas.List.{drop_all, drop_more, length-replicate, length-set}
 use Rattle.std.specs.Prelude.{replicate, vec_len}
 use Rattle.occ_board.proofs.Counted.{from_none}

@@ -1,4 +1,4 @@
-use Rattle.std.proofs.Common.{◌∙◌, ◌&&◌, ◌≡◌, Bool, List, ap, false, get_or, inl, not, refl, subst, sym, true, ℕ}
+use Rattle.std.proofs.Common.{◌∙◌, ◌&&◌, Bool, List, ap, false, get_or, inl, not, refl, subst, sym, true, ℕ}
 use Rattle.occ_board.proofs.Alikes.{alike_full, alike_long, alike_looked, alike_ready, alike_sound}
 use Rattle.occ_board.proofs.Looked.{verified_after}
 use Rattle.occ_board.proofs.Marked.{left_by}

@@ -1,4 +1,4 @@
-use Rattle.std.proofs.Common.{◌∙◌, Bool, List, ap, arith, refl, subst, sym}
+use Rattle.std.proofs.Common.{◌∙◌, Bool, List, ap, arith, subst, sym}
 use Rattle.std.specs.Prelude.{remove}
 use Rattle.occ_board.specs.inside.Verified.{AreVerified}
 use Rattle.occ_board.proofs.Looked.{verified_new}

@@ -1,10 +1,9 @@
-use Rattle.std.proofs.Common.{◌∙◌, ◌&&◌, ◌≡◌, Bool, List, Some, ap, false, get_or, length, not, refl, subst, sym, ℕ}
+use Rattle.std.proofs.Common.{◌∙◌, ◌&&◌, ◌≡◌, Bool, List, Some, ap, false, get_or, not, refl, subst, sym, ℕ}
 use Rattle.occ_board.proofs.Looked.{one_index, verified_after}
 use Rattle.occ_board.proofs.Marked.{full_at, long_at, looked_at, sound_at}
 use Rattle.occ_board.proofs.Revisions.{reported_then}
 use Rattle.occ_board.proofs.touching.renew_other.Goals as goal
 use Rattle.occ_project_graph.specs.Graph.{is_among}
-use Rattle.occ_project.specs.Reads.{index}
 use Rattle.occ_project_units.proofs.Finding.{index_within}
 use Rattle.occ_project_units.specs.Project.{IsProject}
 

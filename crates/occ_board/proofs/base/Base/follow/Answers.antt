@@ -1,4 +1,4 @@
-use Rattle.std.proofs.Common.{◌≡◌, ◌∙◌, ◌+◌, ℕ, List, ap, length}
+use Rattle.std.proofs.Common.{◌≡◌, ◌∙◌, ◌+◌, List, ap, length}
 use Rattle.occ_board.proofs.Following.{back_replayed}
 use Rattle.occ_board.proofs.base.Base.follow.Goals as goal
 use Rattle.occ_board.proofs.base.Base.follow.Goals.{then-entries-files+in_ok-edited_files+in_ok-put_all, else-entries-files+in_ok-self}

@@ -1,10 +1,9 @@
-use Rattle.std.proofs.Common.{rules, ◌≡◌, ◌∙◌, ℕ, List, [], ap, subst, sym}
+use Rattle.std.proofs.Common.{rules, ◌≡◌, ◌∙◌, List, ap}
 use Rattle.occ_board.proofs.Begun.{cut_off}
 use Rattle.occ_board.proofs.board.Board.checkpoint.Goals as goal
-use Rattle.occ_board.specs.Journal.{base_after, last_number, replay}
+use Rattle.occ_board.specs.Journal.{base_after}
 use Rattle.occ_board.specs.declared.base.Base.{Base}
 use Rattle.occ_board.specs.declared.entry.Entry.{Entry}
-use Rattle.occ_project.specs.declared.reads.Read.{Read}
 
 pub invariant_of-self-2 : goal.invariant_of-self-2
 invariant_of-self-2 c =

@@ -1,5 +1,4 @@
-use Rattle.std.proofs.Common.{◌∙◌, ◌≤◌, Bool, List, ap, false, length, subst, sym}
-use Rattle.std.specs.List.{insert}
+use Rattle.std.proofs.Common.{◌∙◌, ◌≤◌, Bool, List, ap, length, subst, sym}
 use Rattle.occ_board.proofs.Counted.{one_more}
 use Rattle.occ_board.proofs.flags.Flags.insert.Goals as goal
 use Rattle.occ_board.specs.inside.Flagged.{flagged}
