@@ -124,6 +124,15 @@ fn with_flags<'a>(alloc: Global, command: Command<'a>) -> Result<Command<'a>, Al
     command.arg(no_checks)?.arg(race_free)?.arg(quiet)
 }
 
+/// The words of a server.
+fn with_streams<'a>(alloc: Global, command: Command<'a>) -> Result<Command<'a>, AllocError> {
+    let stdio = Arg::new(alloc, "stdio")
+        .long("stdio")
+        .action(ArgAction::SetTrue)
+        .help("serve over standard input and output, as it does without this word");
+    with_folders(alloc, command)?.arg(stdio)
+}
+
 /// What stands in a line, which begins with the program's name.
 fn matched<'a>(alloc: Global, line: &'a [&'a str]) -> Result<ArgMatches<'a>, Error> {
     let check = with_values(
@@ -146,7 +155,7 @@ fn matched<'a>(alloc: Global, line: &'a [&'a str]) -> Result<ArgMatches<'a>, Err
         .subcommand_required(true)
         .subcommand(with_flags(alloc, check)?)?
         .subcommand(explain.arg(code)?)?
-        .subcommand(with_folders(alloc, serve)?)?
+        .subcommand(with_streams(alloc, serve)?)?
         .try_get_matches_from(line)
 }
 
