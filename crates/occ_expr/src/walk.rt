@@ -30,9 +30,9 @@ use occ_expr_operations::{
     decimal_component, decorated_literal, decorated_open, digits_of, element_of, element_reading,
     extreme_of, faulty_reading, field_selector, for_of, from_for_of, from_of, literal,
     literal_reading, name_alone, named_channel, one_result, only, open_dimension, operand_call,
-    operation_of, operation_of_two, pair, part_of, place_tree, primitive_of, referred,
-    report_alone, report_no_function, run_operator, segment_of, shared_type, sized_dimension,
-    table_as, truth, values_channel, with_selector,
+    operation_of, pair, part_of, place_tree, primitive_of, referred, report_alone,
+    report_no_function, run_operator, segment_of, shared_type, sized_dimension, table_as, truth,
+    values_channel, with_selector,
 };
 use occ_forms_expressions::{
     Bounds, Builtin, DataBase, Dimension, Element, Expr, Extreme, Literal, MonadicOperator,
@@ -80,13 +80,10 @@ fn composed(
     match expr {
         Expr::Alone(following) => whole_operand(alloc, following, scope, faults),
         Expr::Run(operator, first, second, more) => {
-            let first = operand(alloc, first.get(), scope, faults)?;
-            let second = operand(alloc, second.get(), scope, faults)?;
-            if more.is_empty() {
-                return operation_of_two(alloc, first, run_operator(*operator), second, faults);
-            }
             let mut readings = Readings::with_room(alloc, more.len().saturating_add(2))?;
+            let first = operand(alloc, first.get(), scope, faults)?;
             readings.push(first)?;
+            let second = operand(alloc, second.get(), scope, faults)?;
             readings.push(second)?;
             operands(alloc, more.as_slice(), scope, &mut readings, faults)?;
             operation_of(alloc, readings, run_operator(*operator), faults)
