@@ -14,9 +14,7 @@ mod written;
 pub use calling::{all_results, one_call, one_result, operand_call};
 pub use literals::{decorated_literal, literal, truth};
 pub use opening_exprs::{decorated_open, place_tree};
-pub use operation::{
-    applied, converted, extreme_of, operation_of, operation_of_two, pair, run_operator,
-};
+pub use operation::{applied, converted, extreme_of, operation_of, pair, run_operator};
 pub use parts::{
     component_of, converted_table, decimal_component, digits_of, element_name, name_alone, only,
     referred, report_alone, report_no_function, segment_of, shared_type, sized_dimension, table_as,

@@ -84,7 +84,7 @@ fn operands_type(alloc: Global, operands: &[OpenExpr]) -> Result<Shared<OccType>
 
 /// Typed operands with one operator between each two.
 #[tactic(auto, unfolding(crate::specs::OpenExprs::operation_open))]
-pub fn known_operation(
+fn known_operation(
     alloc: Global,
     known: &Known,
     operator: Operator,

@@ -9,9 +9,7 @@ ghost use Rattle.occ_typing_tables.specs.Measuring.{sized as spec_sized};
 ghost use Rattle.occ_typing_tables.specs.Terms.{and_then, judged, judged_all};
 ghost use Rattle.occ_typing_tables.specs.declared.term.Term.TheVariants as v;
 
-use super::opening_exprs::{
-    converted_open, front_open, known_operation, operation_open, shift_open, size_open, two_items,
-};
+use super::opening_exprs::{converted_open, front_open, operation_open, shift_open, size_open};
 use super::reading::{Reading, Readings, faulty_reading, literal_reading};
 use occ_base::{Fault, Items, Shared};
 use occ_forms_expressions::{Extreme, MonadicOperator, PairOperator, RunOperator};
@@ -20,7 +18,6 @@ use occ_typing_operands::{
     Kind, Untyped, applied as applied_to, converted as converted_to, operated, operated_pair,
     shifted, untyped,
 };
-use occ_typing_rules::OpenExpr;
 use occ_typing_tables::{Limit, Term, alone, has_fault, most, operand, sized};
 use std::alloc::{AllocError, Global};
 
@@ -220,25 +217,8 @@ pub fn operation_of(
     })
 }
 
-/// The open expression of two operands with an operator between them, of whose whole this is known. No list of them is made where
-/// they have types.
-fn open_of_two(
-    alloc: Global,
-    whole: &Kind,
-    operator: Operator,
-    first: OpenExpr,
-    second: OpenExpr,
-) -> Result<OpenExpr, AllocError>
-    ensures { IfOk result (λ open_expr. open_expr ≡ spec_operation_open whole.now operator (first ∷ second ∷ [])) }
-{
-    match whole {
-        Kind::Known(known) => known_operation(alloc, known, operator, &[first, second]),
-        _ => operation_open(alloc, whole, operator, two_items(alloc, first, second)?),
-    }
-}
-
 /// Two operands with an operator between them.
-pub fn operation_of_two(
+fn operation_of_two(
     alloc: Global,
     first: Reading,
     operator: Operator,
@@ -249,13 +229,8 @@ pub fn operation_of_two(
     ensures open_expr { IfOk result (λ whole. whole.open_expr ≡ spec_operation_open (spec_operation operator (judged_all (first.term ∷ second.term ∷ []))).kind operator (first.open_expr ∷ second.open_expr ∷ [])) }
     ensures faults { OnOk result (faults.new ≡ faults.old ++ (spec_operation operator (judged_all (first.term ∷ second.term ∷ []))).faults) }
 {
-    let terms = [first.term, second.term];
-    let kind = operation(alloc, &terms, operator, faults)?;
-    let open_expr = open_of_two(alloc, &kind, operator, first.open_expr, second.open_expr)?;
-    Ok(Reading {
-        term: Term::Single(kind),
-        open_expr,
-    })
+    let operands = Readings::two(alloc, first, second)?;
+    operation_of(alloc, operands, operator, faults)
 }
 
 /// Two operands and what stands between them.

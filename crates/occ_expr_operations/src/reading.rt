@@ -7,7 +7,7 @@ ghost use Rattle.occ_typing_operands.specs.declared.kind.Kind.TheVariants as k;
 ghost use Rattle.occ_typing_tables.specs.declared.term.Term.TheVariants as v;
 ghost use Rattle.occ_typing_rules.specs.declared.open_expr.OpenExpr.TheVariants as d;
 
-use super::opening_exprs::literal_open;
+use super::opening_exprs::{literal_open, two_items};
 use occ_base::{Items, one_item};
 use occ_typing_operands::{Kind, UntypedConstant};
 use occ_typing_rules::OpenExpr;
@@ -59,6 +59,19 @@ impl Readings {
     {
         let terms = one_item(alloc, first.term);
         let open_exprs = one_item(alloc, first.open_expr)?;
+        Ok(Readings {
+            terms: terms?,
+            open_exprs,
+        })
+    }
+
+    /// Of two expressions.
+    pub fn two(alloc: Global, first: Reading, second: Reading) -> Result<Readings, AllocError>
+        ensures terms { IfOk result (λ all. all.terms ≡ first.term ∷ second.term ∷ []) }
+        ensures open_exprs { IfOk result (λ all. all.open_exprs ≡ first.open_expr ∷ second.open_expr ∷ []) }
+    {
+        let terms = two_items(alloc, first.term, second.term);
+        let open_exprs = two_items(alloc, first.open_expr, second.open_expr)?;
         Ok(Readings {
             terms: terms?,
             open_exprs,
